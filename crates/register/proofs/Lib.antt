@@ -1,0 +1,5 @@
+pub mod Basics
+pub mod Places
+pub mod Laws
+pub mod Sums
+pub mod Views

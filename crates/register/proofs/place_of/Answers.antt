@@ -1,0 +1,12 @@
+use native.Mathlib.Omega.{arith}
+use Rattle.std.proofs.shelf.Lists.{drop-more, drop-all}
+use Rattle.register.proofs.place_of.Needs as need
+
+pub returns-then-is-under : need.returns-then-is-under
+returns-then-is-under g c = record { value = grind (arith, drop-more); within = c .loop-i-test .taken }
+
+pub loop-i-again : need.loop-i-again
+loop-i-again g c = grind (arith, drop-more)
+
+pub returns : need.returns
+returns g c = record { value = grind (arith, drop-all); within = tt }
