@@ -19,10 +19,10 @@ use Rattle.register.specs.Shapes.{Shape, Decides}
 use Rattle.register.specs.Registers.{look, count, room, add, replace, answer-by, put-answer, leaves-by, put, distinct, Held-after}
 use Rattle.register.proofs.Basics.{none-some, some-equal, true-false, different, not-same}
 
-ok-err : {A B X : Type 0} (a : A) (b : B) → _≡_ {A = Result A B} (Ok a) (Err b) → X
+pub ok-err : {A B X : Type 0} (a : A) (b : B) → _≡_ {A = Result A B} (Ok a) (Err b) → X
 ok-err a b e = let z : _≡_ {A = ℕ} 0 1 = cc in absurd (omega arith)
 
-ok-equal : {A B : Type 0} (a b : A) → _≡_ {A = Result A B} (Ok a) (Ok b) → a ≡ b
+pub ok-equal : {A B : Type 0} (a b : A) → _≡_ {A = Result A B} (Ok a) (Ok b) → a ≡ b
 ok-equal a b e = cc
 
 none-is : {V : Type 0} (o : Option V) → isSome o ≡ false → o ≡ None

@@ -3,3 +3,4 @@ pub mod Places
 pub mod Laws
 pub mod Sums
 pub mod Views
+pub mod Taken

@@ -1,3 +1,5 @@
 pub mod Shapes
 pub mod Registers
 pub mod Held
+pub mod Views
+pub mod Taken

@@ -1,3 +1,4 @@
+use Rattle.register.proofs.Taken
 use Rattle.register.proofs.Views
 use mathlib.Core.Path.{refl}
 use Rattle.register.proofs.Sums.{sums-by-key, sums-bounded}
