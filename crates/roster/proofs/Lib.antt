@@ -1,0 +1,6 @@
+pub mod Trimming
+pub mod Pieces
+pub mod Comparisons
+pub mod Positions
+pub mod Openings
+pub mod Indices

@@ -1,0 +1,34 @@
+use mathlib.Core.Path.{sym, ap, _∙_}
+use mathlib.Core.Bool.{_&&_}
+use lib.Dec.{eqb}
+use lib.ListN.{length}
+use Rattle.std.specs.declared.result.Result.the-variants.{Ok}
+use Rattle.roster.specs.Names.{decoded, bytes-of}
+use Rattle.roster.proofs.Comparisons.{agreed, agrees-on, differs, finish}
+use Rattle.roster.proofs.names.reads_as.Needs as need
+
+pub loop-rest-again-in-Some : need.loop-rest-again-in-Some
+loop-rest-again-in-Some c =
+    sym (agrees-on (c .loop-rest .agrees) (bytes-of (c .in-Continue-piece .piece)) _ _ (decoded (c .in-Continue-piece .after .now)) (c .in-Some .ensures tt))
+    ∙ ap (agreed (c .loop-rest .agrees) (c .loop-rest .left .now)) (sym (c .in-Continue-piece .ensures tt .0))
+    ∙ c .loop-rest .inv
+
+pub loop-rest-again : need.loop-rest-again
+loop-rest-again c =
+    sym (differs (c .loop-rest .agrees) (bytes-of (c .in-Continue-piece .piece)) _ (decoded (c .in-Continue-piece .after .now)) (c .in-None .ensures tt))
+    ∙ ap (agreed (c .loop-rest .agrees) (c .loop-rest .left .now)) (sym (c .in-Continue-piece .ensures tt .0))
+    ∙ c .loop-rest .inv
+
+pub returns-then-agrees : need.returns-then-agrees
+returns-then-agrees c =
+    ap Ok (c .is-empty-then-agrees .ensures)
+    ∙ ap (λ b. Ok (b && eqb (length (c .loop-rest .left .now)) 0)) (sym (c .if-agrees .taken))
+    ∙ sym (finish (c .loop-rest .agrees) (c .loop-rest .left .now) (c .loop-rest .rest .now) (c .loop-rest-test .ensures tt))
+    ∙ c .loop-rest .inv
+
+pub returns-else-agrees : need.returns-else-agrees
+returns-else-agrees c =
+    ap Ok (c .if-agrees .left)
+    ∙ ap (λ b. Ok (b && eqb (length (c .loop-rest .left .now)) 0)) (sym (c .if-agrees .left))
+    ∙ sym (finish (c .loop-rest .agrees) (c .loop-rest .left .now) (c .loop-rest .rest .now) (c .loop-rest-test .ensures tt))
+    ∙ c .loop-rest .inv
