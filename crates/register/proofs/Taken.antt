@@ -17,7 +17,7 @@ use Rattle.std.specs.declared.result.Result.the-variants.{Ok, Err}
 use Rattle.refusal.specs.declared.Refusal.{Refusal}
 use Rattle.refusal.specs.declared.Refusal.the-variants.{VersionNotHigher, RegisterFull}
 use Rattle.register.specs.Shapes.{Shape, Decides}
-use Rattle.register.specs.Registers.{look, count, room, add, replace, answer-by, put-answer, leaves-by, put, distinct, Held-after, value-of, sum-held}
+use Rattle.register.specs.Registers.{look, count, room, add, replace, answer-by, put-answer, leaves-by, put, distinct, Held-after, value-of, sum-held, Each}
 use Rattle.register.specs.Taken.{latest, keys, All-lower, Admitted}
 use Rattle.register.proofs.Basics.{none-some, some-equal, true-false, different, not-same}
 use Rattle.register.proofs.Laws.{held-after, room-count, look-fresh, distinct-fresh, count-fresh, ok-err, ok-equal, look-with}
@@ -167,3 +167,62 @@ module _ {E K : Type 0} (w : Shape E K) where
   pub sum-put : (f : E → ℤ) (xs : List (Option E)) (e : E) (old : Option E) → put-answer w xs e ≡ Ok old → sum-held f (put w xs e) +ℤ value-of f old ≡ f e +ℤ sum-held f xs
   sum-put f xs e old is =
       ap (λ r. sum-held f (leaves-by w r xs e) +ℤ value-of f old) is ∙ sum-by f xs e (look w (w .key e) xs) refl old is
+
+  -- ---- what a look-up finds, and what a put replaces
+  pub look-key : (k : K) (xs : List (Option E)) (o : E) → look w k xs ≡ Some o → w .same k (w .key o) ≡ true
+  look-key k [] o h = none-some o h
+  look-key k (None ∷ xs) o h = look-key k xs o h
+  look-key k (Some x ∷ xs) o h = go (w .same k (w .key x)) refl h (look-key k xs o)
+    where
+      go : (b : Bool) → w .same k (w .key x) ≡ b → cond b (Some x) (look w k xs) ≡ Some o → (look w k xs ≡ Some o → w .same k (w .key o) ≡ true) → w .same k (w .key o) ≡ true
+      go true s f ih = ap (λ y. w .same k (w .key y)) (sym (some-equal x o f)) ∙ s
+      go false s f ih = ih f
+
+  -- what is replaced has the same key and a lower version
+  pub put-over : Decides (w .same) → (xs : List (Option E)) (e old : E) → put-answer w xs e ≡ Ok (Some old) → (w .key e ≡ w .key old) × (w .version old < w .version e)
+  put-over d xs e old is = go (look w (w .key e) xs) refl is
+    where
+      go : (o : Option E) → look w (w .key e) xs ≡ o → answer-by w o xs e ≡ Ok (Some old) → (w .key e ≡ w .key old) × (w .version old < w .version e)
+      go None f g = at-room (room xs) g
+        where
+          at-room : {X : Type 0} (b : Bool) → _≡_ {A = Result (Option E) Refusal} (cond b (Ok None) (Err RegisterFull)) (Ok (Some old)) → X
+          at-room true q = none-some old (ok-equal None (Some old) q)
+          at-room false q = ok-err (Some old) RegisterFull (sym q)
+      go (Some o) f g = at-version (ltb (w .version o) (w .version e)) refl g
+        where
+          at-version : (b : Bool) → ltb (w .version o) (w .version e) ≡ b → _≡_ {A = Result (Option E) Refusal} (cond b (Ok (Some o)) (Err (VersionNotHigher (w .document e)))) (Ok (Some old)) → (w .key e ≡ w .key old) × (w .version old < w .version e)
+          at-version true p q =
+              let same : o ≡ old = some-equal o old (ok-equal (Some o) (Some old) q) in
+              (d .equal (w .key e) (w .key old) (look-key (w .key e) xs old (f ∙ ap Some same)), subst (λ y. w .version y < w .version e) same (ltb-true (w .version o) (w .version e) p))
+          at-version false p q = ok-err (Some old) (VersionNotHigher (w .document e)) (sym q)
+
+  -- ---- what each element held is
+  each-add : (P : E → Type 0) (xs : List (Option E)) (e : E) → Each P xs → P e → Each P (add xs e)
+  each-add P [] e all p = tt
+  each-add P (None ∷ xs) e all p = (p, all)
+  each-add P (Some x ∷ xs) e all p = (all .0, each-add P xs e (all .1) p)
+
+  each-replace : (P : E → Type 0) (xs : List (Option E)) (e : E) → Each P xs → P e → Each P (replace w xs e)
+  each-replace P [] e all p = tt
+  each-replace P (None ∷ xs) e all p = each-replace P xs e all p
+  each-replace P (Some x ∷ xs) e all p = go (w .same (w .key e) (w .key x)) (each-replace P xs e (all .1) p)
+    where
+      go : (b : Bool) → Each P (replace w xs e) → Each P (cond b (Some e ∷ xs) (Some x ∷ replace w xs e))
+      go true ih = (p, all .1)
+      go false ih = (all .0, ih)
+
+  pub each-put : (P : E → Type 0) (xs : List (Option E)) (e : E) → Each P xs → P e → Each P (put w xs e)
+  each-put P xs e all p = go (put-answer w xs e)
+    where
+      go : (r : Result (Option E) Refusal) → Each P (leaves-by w r xs e)
+      go (Ok None) = each-add P xs e all p
+      go (Ok (Some old)) = each-replace P xs e all p
+      go (Err refusal) = all
+
+pub each-fresh : {E : Type 0} (P : E → Type 0) (n : ℕ) → Each P (replicate n None)
+each-fresh P zero = tt
+each-fresh P (suc n) = each-fresh P n
+
+pub sum-fresh : {E : Type 0} (f : E → ℤ) (n : ℕ) → sum-held f (replicate n None) ≡ pos 0
+sum-fresh f zero = refl
+sum-fresh f (suc n) = +ℤ-idl (sum-held f (replicate n None)) ∙ sum-fresh f n

@@ -1,0 +1,3 @@
+pub mod BillKeys
+pub mod Totals
+pub mod Posts

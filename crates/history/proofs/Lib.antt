@@ -1,0 +1,5 @@
+pub mod Keeps
+pub mod Balances
+pub mod Takes
+pub mod Holdings
+pub mod Plays

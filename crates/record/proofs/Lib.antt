@@ -1,0 +1,5 @@
+pub mod Bills
+pub mod Keys
+pub mod Numbers
+pub mod Stages
+pub mod Readings

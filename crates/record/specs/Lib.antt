@@ -1,0 +1,4 @@
+pub mod Limits
+pub mod Postings
+pub mod Reading
+pub mod Subjects
