@@ -3,7 +3,7 @@
 pub mod account;
 pub mod calls;
 pub mod open_day;
-mod sums;
+pub mod sums;
 
 pub use account::Account;
 pub use calls::Answer;

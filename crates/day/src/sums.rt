@@ -14,7 +14,7 @@ use units::CentsAdd;
 
 // Whose bills are summed.
 #[derive(Clone, Copy)]
-pub(crate) enum Billed {
+pub enum Billed {
     Member(usize),
     Everyone,
 }

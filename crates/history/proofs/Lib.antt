@@ -1,5 +1,3 @@
 pub mod Keeps
-pub mod Balances
-pub mod Takes
-pub mod Holdings
+pub mod Laws
 pub mod Plays

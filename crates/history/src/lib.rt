@@ -26,7 +26,10 @@ pub fn replay(heap: Global, day: &mut OpenDay<'_>, calls: &[Call<'_>]) -> Result
     ensures zero { λ r. ⌜ Adds-up-to-zero ⌝ }
     ensures holdings { λ r. ⌜ Figures-depend-on-holdings-alone ⌝ }
 {
-    let mut given = Vec::with_capacity(heap, calls.len())?;
+    let mut given = match Vec::with_capacity(heap, calls.len()) {
+        Ok(given) => given,
+        Err(wanting) => return Err(wanting),
+    };
     for call in calls {
         given.push_reserved(make(day, call));
     }

@@ -48,7 +48,7 @@ module _ {E K : Type 0} (w : Shape E K) where
   lower-than e o [] k lt h = tt
   lower-than e o (x ∷ xs) k lt h = ((λ s. let l = h .0 (ap (λ j. w .same j (w .key x)) (sym k) ∙ s) in omega arith), lower-than e o xs k lt (h .1))
 
-  lower-last : (e o : E) (xs : List E) → All-lower w e xs → latest w (w .key e) xs ≡ Some o → w .version o < w .version e
+  pub lower-last : (e o : E) (xs : List E) → All-lower w e xs → latest w (w .key e) xs ≡ Some o → w .version o < w .version e
   lower-last e o [] h is = none-some o is
   lower-last e o (x ∷ xs) h is = go (w .same (w .key e) (w .key x)) refl is (lower-last e o xs (h .1))
     where
@@ -56,7 +56,7 @@ module _ {E K : Type 0} (w : Shape E K) where
       go true s f ih = subst (λ y. w .version y < w .version e) (some-equal x o f) (h .0 s)
       go false s f ih = ih f
 
-  lower-none : (e : E) (xs : List E) → latest w (w .key e) xs ≡ None → All-lower w e xs
+  pub lower-none : (e : E) (xs : List E) → latest w (w .key e) xs ≡ None → All-lower w e xs
   lower-none e [] is = tt
   lower-none e (x ∷ xs) is = go (w .same (w .key e) (w .key x)) refl is (lower-none e xs)
     where

@@ -1,6 +1,6 @@
 -- The opening question, check by check. Assumes nothing.
-use mathlib.Core.Path.{_≡_, sym, ap, _∙_}
-use mathlib.Core.Bool.{false, cond, _||_}
+use mathlib.Core.Path.{_≡_, refl, sym, ap, _∙_}
+use mathlib.Core.Bool.{Bool, true, false, cond, _||_}
 use mathlib.Core.List.{List, map, map-map}
 use mathlib.Core.Logic.{_⊎_, inl, inr, ⊎-elim}
 use Prim.Native.Nat.{ℕ, _+_, _<_, _≤_}
@@ -12,12 +12,12 @@ use Rattle.std.specs.declared.option.Option.the-variants.{Some, None}
 use Rattle.std.specs.declared.result.Result.{Result}
 use Rattle.std.specs.declared.result.Result.the-variants.{Ok, Err}
 use Rattle.std.proofs.shelf.Lists.{length-map}
-use Rattle.std.proofs.shelf.Tests.{cond-true, cond-false, le-ltb, lt-ltb, or-left, or-right, or-from, cases-lt, cases-eq, ne-eqb, eqb-false}
+use Rattle.std.proofs.shelf.Tests.{cond-true, cond-false, le-ltb, lt-ltb, or-left, or-right, or-from, cases-lt, cases-eq, ne-eqb, eqb-false, ltb-false}
 use Rattle.refusal.specs.declared.Refusal.{Refusal}
 use Rattle.refusal.specs.declared.Refusal.the-variants.{MemberCount, SiteCount, SiteWithoutMember, BadName}
 use Rattle.roster.specs.declared.entries.Member.{Member}
 use Rattle.roster.specs.declared.entries.Site.{Site}
-use Rattle.roster.specs.Rosters.{SiteLine, lines-of, line-of, site-names, without-member, wrong-name, refused, opening}
+use Rattle.roster.specs.Rosters.{SiteLine, Lines, lines-of, line-of, site-names, without-member, wrong-name, refused, opening}
 
 -- the names of the sites, read from the lines or from the sites
 pub site-names-of : (sites : List Site) → map (λ (l : SiteLine). l .name) (map line-of sites) ≡ map (λ (s : Site). s .name .now) sites
@@ -86,3 +86,12 @@ module _ (members : List Member) (sites : List Site) where
   sites-within e =
       ⊎-elim (λ many. let r = site-count-refused (members-some e) (members-within e) many in absurd (let z : _≡_ {A = ℕ} 0 1 = cc in omega arith)) (λ fit. fit)
       (cases-lt 32 (length sites))
+
+-- any lines that a day may be opened with have at most 16 members
+pub few-members : (l : Lines) → opening l ≡ Ok tt → length (l .members) ≤ 16
+few-members l h = go (ltb (length (l .members)) 1) (ltb 16 (length (l .members))) refl _ h
+  where
+    go : (none many : Bool) → ltb 16 (length (l .members)) ≡ many → (next : Result (Unit {0}) Refusal) → cond (none || many) (Err MemberCount) next ≡ Ok tt → length (l .members) ≤ 16
+    go true many is next e = absurd (let z : _≡_ {A = ℕ} 0 1 = cc in omega arith)
+    go false true is next e = absurd (let z : _≡_ {A = ℕ} 0 1 = cc in omega arith)
+    go false false is next e = ltb-false 16 (length (l .members)) is
