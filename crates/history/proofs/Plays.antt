@@ -8,11 +8,20 @@ use Rattle.day.specs.declared.calls.Answer.{Answer}
 use Rattle.day.specs.Days.{State}
 use Rattle.day.specs.Requests.{Request}
 use Rattle.day.specs.Answers.{answer, after}
-use Rattle.history.specs.Runs.{Opening, Event, Run, called, play, answers, extended}
+use Rattle.history.specs.Runs.{Opening, Event, Run, called, play, events, with-events}
 
-pub plays-run : (o : Opening) (qs : List Request) (s : State) (es : List Event) → Run o es s → Run o (extended s qs es) (play s qs)
+pub plays-run : (o : Opening) (qs : List Request) (s : State) (es : List Event) → Run o es s → Run o (with-events es (events s qs)) (play s qs)
 plays-run o [] s es run = run
 plays-run o (q ∷ qs) s es run = plays-run o qs (after s q) (record { request = q; answer = answer s q } ∷ es) (called run q)
+
+-- the events are those of the calls
+pub requests-are : (s : State) (qs : List Request) → map (λ e. e .request) (events s qs) ≡ qs
+requests-are s [] = refl
+requests-are s (q ∷ qs) = ap (λ rs. q ∷ rs) (requests-are (after s q) qs)
+
+-- what they are answered
+abbrev pub answers : State → List Request → List Answer
+answers s qs = map (λ e. e .answer) (events s qs)
 
 module _ {C : Type 0} (f : C → Request) (calls : List C) (i : ℕ) where
   -- one call more

@@ -30,12 +30,12 @@ abbrev pub play : State → List Request → State
 play s [] = s
 play s (q ∷ qs) = play (after s q) qs
 
--- what they are answered, one for one
-abbrev pub answers : State → List Request → List Answer
-answers s [] = []
-answers s (q ∷ qs) = answer s q ∷ answers (after s q) qs
+-- their events, the oldest first
+abbrev pub events : State → List Request → List Event
+events s [] = []
+events s (q ∷ qs) = record { request = q; answer = answer s q } ∷ events (after s q) qs
 
--- the history after them, where es was the history before
-abbrev pub extended : State → List Request → List Event → List Event
-extended s [] es = es
-extended s (q ∷ qs) es = extended (after s q) qs (record { request = q; answer = answer s q } ∷ es)
+-- a history with these events after it, the oldest of them first
+abbrev pub with-events : List Event → List Event → List Event
+with-events es [] = es
+with-events es (e ∷ new) = with-events (e ∷ es) new

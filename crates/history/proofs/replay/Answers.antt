@@ -6,15 +6,16 @@ use lib.ListN.{drop}
 use borrow.Author.Needs.{needs}
 use Rattle.day.specs.Requests.{request-of}
 use Rattle.day.specs.States.{state-of}
-use Rattle.history.specs.Runs.{Run, extended, answers}
-use Rattle.history.proofs.Plays.{plays-run, play-more, answers-more, play-end, answers-end}
+use Rattle.history.specs.Runs.{Run, events, with-events}
+use Rattle.history.proofs.Plays.{plays-run, requests-are, answers, play-more, answers-more, play-end, answers-end}
 use Rattle.history.proofs.Laws.{taken-exactly-when, bill-taken-exactly-when, balances-are-bills, adds-up-to-zero, figures-depend-on-holdings-alone}
 use Rattle.history.proofs.replay.Needs as need
 
 pub returns-in-Err : need.returns-in-Err
 returns-in-Err c = record {
-  plays = refl;
+  leaves = refl;
   answers = tt;
+  calls = requests-are (state-of (c .args .day .now)) (map request-of (c .args .calls .now));
   run = tt;
   taken = taken-exactly-when;
   bills = bill-taken-exactly-when;
@@ -52,9 +53,10 @@ returns c =
     let le = c .loop-call-test .left in
     let plays = play-end request-of calls i t le ∙ c .loop-call .inv .0 in
     record {
-      plays = plays;
+      leaves = plays;
+      calls = requests-are s (map request-of calls);
       answers = answers-end request-of calls i t _ le ∙ c .loop-call .inv .1;
-      run = λ o es run. subst (λ u. Run o (extended s (map request-of calls) es) u) (sym plays) (plays-run o (map request-of calls) s es run);
+      run = λ o es run. subst (λ u. Run o (with-events es (events s (map request-of calls))) u) (sym plays) (plays-run o (map request-of calls) s es run);
       taken = taken-exactly-when;
       bills = bill-taken-exactly-when;
       balances = balances-are-bills;

@@ -5,7 +5,8 @@ use lib.ListN.{length, drop}
 use Rattle.std.specs.Of.Vec.{vec-items, vec-len, vec-cap}
 use Rattle.day.specs.Requests.{request-of}
 use Rattle.day.specs.States.{state-of}
-use Rattle.history.specs.Runs.{play, answers}
+use Rattle.history.specs.Runs.{play}
+use Rattle.history.proofs.Plays.{answers}
 use Rattle.history.proofs.replay.Given as given
 
 abbrev pub Inv-loop-call : given.InvT-loop-call
