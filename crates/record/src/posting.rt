@@ -13,7 +13,7 @@ use units::Kw;
 use units::Version;
 use units::bounds::DirectionPartialEq;
 
-#[derive(Clone, Copy, PartialEq, Eq, Debug)]
+#[derive(Clone, Copy, PartialEq, Eq)]
 pub enum Kind {
     Award,
     Mileage,
@@ -69,7 +69,7 @@ pub struct Obligation {
 }
 
 // A charge is owed by the member, a credit to it.
-#[derive(Clone, Copy, PartialEq, Eq, Debug)]
+#[derive(Clone, Copy)]
 pub enum Side {
     Charge,
     Credit,

@@ -45,6 +45,9 @@ pub finish : (b : Bool) (left rest : List ℕ) → true ≡ eqb (length rest) 0 
 finish b left [] e = finish-at b left
 finish b left (x ∷ rest) e = absurd (omega (arith, eqb-true (length (x ∷ rest)) 0 (sym e)))
 
+pub malformed : (b : Bool) (left : List ℕ) (o : Option (List ℕ)) (e : Malformed) → o ≡ None → Err e ≡ agreed b left o
+malformed b left o BareDelimiter h = sym (ap (agreed b left) h)
+
 pub blank-is : (o : Option (List ℕ)) → compared [] o ≡ blank o
 blank-is None = refl
 blank-is (Some []) = refl

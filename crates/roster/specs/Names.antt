@@ -2,11 +2,12 @@
 use mathlib.Core.List.{List, [], _∷_, _++_}
 use mathlib.Core.Bool.{Bool, true, false, cond, not, _&&_}
 use Prim.Native.Nat.{ℕ, zero, suc, _-_}
-use lib.ListN.{length, take, getD}
+use lib.ListN.{length, take, drop, getD}
 use lib.Dec.{eqb, leb}
 use lib.Chars.{codes}
+use Rattle.std.specs.Options.{mapped}
 use Rattle.std.specs.shelf.Lawful.{all-pass}
-use Rattle.std.specs.shelf.Lists.{ending}
+use Rattle.std.specs.shelf.Lists.{leading, ending}
 use Rattle.std.specs.shelf.Text.{sameBytes}
 use Rattle.std.specs.declared.option.Option.{Option}
 use Rattle.std.specs.declared.option.Option.the-variants.{Some, None}
@@ -22,6 +23,12 @@ use Rattle.roster.specs.declared.names.Entity.the-variants.{Amp, Lt, Gt, Apos,
 abbrev pub space : ℕ
 space = 32
 
+abbrev pub ampersand : ℕ
+ampersand = 38
+
+abbrev pub less-than : ℕ
+less-than = 60
+
 abbrev pub printable : ℕ → Bool
 printable b = leb 32 b && leb b 126
 
@@ -33,8 +40,8 @@ well-formed name =
 
 -- the byte that an entity stands for
 abbrev pub byte-of : Entity → ℕ
-byte-of Amp = 38
-byte-of Lt = 60
+byte-of Amp = ampersand
+byte-of Lt = less-than
 byte-of Gt = 62
 byte-of Apos = 39
 byte-of Quot = 34
@@ -76,12 +83,24 @@ abbrev pub decoded-after : ℕ → List ℕ → Option (List ℕ)
 decoded-after n [] = Some []
 decoded-after (suc n) (x ∷ xs) = decoded-after n xs
 decoded-after zero (x ∷ xs) =
-    cond (eqb x 60) None
-    (cond (eqb x 38) (elim (entity xs) [ None ↦ None | Some e ↦ prefixed (byte-of e ∷ []) (decoded-after (size e) xs) ])
+    cond (eqb x less-than) None
+    (cond (eqb x ampersand) (elim (entity xs) [ None ↦ None | Some e ↦ prefixed (byte-of e ∷ []) (decoded-after (size e) xs) ])
     (prefixed (x ∷ []) (decoded-after zero xs)))
 
 abbrev pub decoded : List ℕ → Option (List ℕ)
 decoded xs = decoded-after 0 xs
+
+-- a byte that begins no piece but a plain stretch
+abbrev pub plain : ℕ → Bool
+plain b = not (eqb b ampersand) && not (eqb b less-than)
+
+-- what the first piece stands for, and the bytes after it; none where its delimiter is bare
+abbrev pub first-piece : List ℕ → Option (List ℕ × List ℕ)
+first-piece [] = Some ([], [])
+first-piece (x ∷ xs) =
+    cond (eqb x less-than) None
+    (cond (eqb x ampersand) (mapped (λ e. (byte-of e ∷ [], drop (size e) xs)) (entity xs))
+    (Some (take (leading plain (x ∷ xs)) (x ∷ xs), drop (leading plain (x ∷ xs)) (x ∷ xs))))
 
 -- a field without the spaces at its end
 abbrev pub trimmed-end : List ℕ → List ℕ

@@ -53,11 +53,11 @@ abbrev pub found : Option (List ℕ) → List (List ℕ) → Option ℕ
 found None names = None
 found (Some name) names = position name names
 
--- a name that may not stand after these
+-- a name that is not well-formed, or equals one of these
 abbrev pub wrong : List (List ℕ) → List ℕ → Bool
 wrong earlier name = not (well-formed name) || isSome (position name earlier)
 
--- the index of the first wrong name in a row that stands after these
+-- the index of the first wrong name in a row that comes after these
 abbrev pub wrong-after : List (List ℕ) → List (List ℕ) → Option ℕ
 wrong-after earlier [] = None
 wrong-after earlier (name ∷ names) = cond (wrong earlier name) (Some 0) (mapped suc (wrong-after (earlier ++ name ∷ []) names))
@@ -65,21 +65,29 @@ wrong-after earlier (name ∷ names) = cond (wrong earlier name) (Some 0) (mappe
 abbrev pub wrong-name : List (List ℕ) → Option ℕ
 wrong-name names = wrong-after [] names
 
--- the first site whose member is not one of so many
+-- the index of the first site whose member is not below the count
 abbrev pub without-member : ℕ → List SiteLine → Option ℕ
 without-member count sites = first (λ s. leb count (s .member)) sites
 
--- refused for this index, or else what follows
-abbrev pub refused : (ℕ → Refusal) → Option ℕ → Result (Unit {0}) Refusal → Result (Unit {0}) Refusal
-refused refusal None next = next
-refused refusal (Some i) next = Err (refusal i)
+-- 1 to 16 members and at most 32 sites
+abbrev pub counts : ℕ → ℕ → Result (Unit {0}) Refusal
+counts members sites = cond (ltb members 1 || ltb 16 members) (Err MemberCount) (cond (ltb 32 sites) (Err SiteCount) (Ok tt))
+
+-- refused for this index, if there is one
+abbrev pub refused : (ℕ → Refusal) → Option ℕ → Result (Unit {0}) Refusal
+refused refusal None = Ok tt
+refused refusal (Some i) = Err (refusal i)
+
+-- the first of two checks that refuses
+infixr 5 _and-then_
+abbrev pub _and-then_ : Result (Unit {0}) Refusal → Result (Unit {0}) Refusal → Result (Unit {0}) Refusal
+Err refusal and-then next = Err refusal
+Ok _ and-then next = next
 
 -- whether a day may be opened with this roster
 abbrev pub opening : Lines → Result (Unit {0}) Refusal
 opening l =
-    let count = length (l .members) in
-    cond (ltb count 1 || ltb 16 count) (Err MemberCount)
-    (cond (ltb 32 (length (l .sites))) (Err SiteCount)
-    (refused SiteWithoutMember (without-member count (l .sites))
-    (refused BadName (wrong-name (l .members))
-    (refused (λ i. BadName (count + i)) (wrong-name (site-names l)) (Ok tt)))))
+    counts (length (l .members)) (length (l .sites))
+    and-then refused SiteWithoutMember (without-member (length (l .members)) (l .sites))
+    and-then refused BadName (wrong-name (l .members))
+    and-then refused (λ i. BadName (length (l .members) + i)) (wrong-name (site-names l))

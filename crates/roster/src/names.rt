@@ -1,14 +1,13 @@
 //! Names, and the text of a record's name field as pieces that borrow its bytes.
 
 ghost use mathlib.Core.Path.{_≡_};
-ghost use mathlib.Core.List.{List, [], _++_};
-ghost use Prim.Native.Nat.{ℕ, _<_, _≤_};
-ghost use lib.ListN.{length, getD, take, drop};
-ghost use Rattle.std.specs.Options.{Cases};
-ghost use Rattle.std.specs.Results.{Cases as ByOk};
-ghost use Rattle.std.specs.declared.option.Option.the-variants.{None};
+ghost use mathlib.Core.List.{List, _++_};
+ghost use Prim.Native.Nat.{ℕ};
+ghost use Rattle.std.specs.Options.{Cases, mapped};
+ghost use Rattle.std.specs.Results.{okPart};
 ghost use Rattle.std.specs.shelf.Lawful.{all-pass};
-ghost use Rattle.roster.specs.Names.{printable, well-formed, byte-of, size, entity, bytes-of, prefixed, decoded, trimmed-end, text, compared, blank};
+ghost use Rattle.std.specs.shelf.Lists.{leading};
+ghost use Rattle.roster.specs.Names.{printable, well-formed, byte-of, size, entity, bytes-of, plain, first-piece, trimmed-end, text, compared, blank};
 
 const MAX_NAME: usize = 24;
 
@@ -21,8 +20,8 @@ fn is_printable(byte: u8) -> bool
 fn are_printable(bytes: &[u8]) -> bool
     ensures { λ r. ⌜ r ≡ all-pass printable (now (bytes .entry)) ⌝ }
 {
-    for byte in bytes {
-        if !is_printable(*byte) {
+    for &byte in bytes {
+        if !is_printable(byte) {
             return false;
         }
     }
@@ -104,12 +103,10 @@ enum Piece<'a> {
 
 // How many bytes at the front stand for themselves.
 fn plain_len(bytes: &[u8]) -> usize
-    ensures within { λ r. ⌜ r ≤ length (now (bytes .entry)) ⌝ }
-    ensures plain { λ r. ⌜ decoded (now (bytes .entry)) ≡ prefixed (take r (now (bytes .entry))) (decoded (drop r (now (bytes .entry)))) ⌝ }
-    ensures some { λ r. ⌜ (0 < length (now (bytes .entry)) → (getD (now (bytes .entry)) 0 0 ≡ 38 → ⊥) → (getD (now (bytes .entry)) 0 0 ≡ 60 → ⊥) → 0 < r) ⌝ }
+    ensures { λ r. ⌜ r ≡ leading plain (now (bytes .entry)) ⌝ }
 {
-    for (i, b) in bytes.iter().enumerate() {
-        if *b == b'&' || *b == b'<' {
+    for (i, &byte) in bytes.iter().enumerate() {
+        if byte == b'&' || byte == b'<' {
             return i;
         }
     }
@@ -118,8 +115,7 @@ fn plain_len(bytes: &[u8]) -> usize
 
 // The first piece of a text, and the bytes after it.
 fn first_piece<'a>(bytes: &'a [u8]) -> Result<(Piece<'a>, &'a [u8]), Malformed>
-    requires { ⌜ 0 < length (now bytes) ⌝ }
-    ensures { λ r. ⌜ ByOk r (λ p. (decoded (now (bytes .entry)) ≡ prefixed (bytes-of (p .0)) (decoded (now (p .1)))) × (length (now (p .1)) < length (now (bytes .entry)))) (λ e. decoded (now (bytes .entry)) ≡ None) ⌝ }
+    ensures { λ r. ⌜ mapped (λ p. (bytes-of (p .0), now (p .1))) (okPart r) ≡ first-piece (now (bytes .entry)) ⌝ }
 {
     match bytes {
         [b'&', after @ ..] => match Entity::read(after) {

@@ -2,10 +2,11 @@
 
 ghost use mathlib.Core.Path.{_≡_};
 ghost use mathlib.Core.List.{map};
-ghost use Prim.Native.Nat.{_<_};
+ghost use Prim.Native.Nat.{_<_, _≤_};
 ghost use lib.ListN.{length};
+ghost use Rattle.std.specs.Vec.{made};
 ghost use Rattle.std.specs.Slices.{found as where-some};
-ghost use Rattle.roster.specs.Rosters.{line-of, lines-of, without-member, opening};
+ghost use Rattle.roster.specs.Rosters.{line-of, lines-of, counts, without-member, opening};
 use crate::entries::Member;
 use crate::entries::MemberNamed;
 use crate::entries::Site;
@@ -17,7 +18,20 @@ const MAX_MEMBERS: usize = 16;
 
 const MAX_SITES: usize = 32;
 
-// The index of the first site whose member is not one of so many.
+fn check_counts(members: usize, sites: usize) -> Result<(), Refusal>
+    ensures value { λ r. ⌜ r ≡ counts members sites ⌝ }
+    ensures within { λ r. ⌜ made r (λ _. (members ≤ 16) × (sites ≤ 32)) ⌝ }
+{
+    if members < 1 || members > MAX_MEMBERS {
+        return Err(Refusal::MemberCount);
+    }
+    if sites > MAX_SITES {
+        return Err(Refusal::SiteCount);
+    }
+    Ok(())
+}
+
+// The index of the first site whose member is not below the count.
 fn site_without_member(sites: &[Site<'_>], members: usize) -> Option<usize>
     ensures value { λ r. ⌜ r ≡ without-member members (map line-of (now (sites .entry))) ⌝ }
     ensures within { λ r. ⌜ where-some r (λ i. i < length (now (sites .entry))) ⌝ }
@@ -33,12 +47,7 @@ fn site_without_member(sites: &[Site<'_>], members: usize) -> Option<usize>
 pub fn may_open(members: &[Member<'_>], sites: &[Site<'_>]) -> Result<(), Refusal>
     ensures { λ r. ⌜ r ≡ opening (lines-of (now (members .entry)) (now (sites .entry))) ⌝ }
 {
-    if members.is_empty() || members.len() > MAX_MEMBERS {
-        return Err(Refusal::MemberCount);
-    }
-    if sites.len() > MAX_SITES {
-        return Err(Refusal::SiteCount);
-    }
+    check_counts(members.len(), sites.len())?;
     if let Some(i) = site_without_member(sites, members.len()) {
         return Err(Refusal::SiteWithoutMember(i as u8));
     }

@@ -46,7 +46,7 @@ pub(crate) fn find<E: Named>(row: &[E], field: &[u8]) -> Option<usize>
     None
 }
 
-// Whether a name may not stand after these entries.
+// Whether a name is not well-formed, or equals the name of one of these entries.
 fn is_wrong<E: Named>(earlier: &[E], name: &[u8]) -> bool
     ensures { λ r. ⌜ r ≡ wrong (map named (now (earlier .entry))) (now (name .entry)) ⌝ }
 {
