@@ -10,8 +10,8 @@ use Rattle.register.specs.Registers.{put-answer, put}
 use Rattle.register.specs.Views.{views, view-answer}
 use Rattle.register.proofs.Views.{answer-view, put-view}
 use Rattle.roster.specs.Rosters.{Lines}
-use Rattle.record.specs.declared.posting.Posting.{Posting}
-use Rattle.record.specs.Postings.{said, shape, posting-shape}
+use Rattle.postings.specs.declared.posting.Posting.{Posting}
+use Rattle.postings.specs.Postings.{said, shape, posting-shape}
 use Rattle.record.specs.Reading.{reading}
 use Rattle.day.specs.Days.{State}
 use Rattle.day.specs.Answers.{put-result, post-answer-by, post-answer, posted-by, posted}

@@ -16,14 +16,14 @@ use Rattle.std.specs.declared.option.Option.the-variants.{Some, None}
 use Rattle.register.specs.Registers.{distinct, sum-held, Each, Space}
 use Rattle.register.proofs.Laws.{first-apart}
 use Rattle.register.proofs.Sums.{bounded}
-use Rattle.record.specs.declared.posting.Posting.{Posting}
-use Rattle.record.specs.declared.posting.Content.{Content}
-use Rattle.record.specs.declared.posting.Content.the-variants.{Award, Mileage, Capacity, Obligation, Bill}
-use Rattle.record.specs.declared.posting.Side.{Side}
-use Rattle.record.specs.declared.posting.Side.the-variants.{Charge, Credit}
-use Rattle.record.specs.Limits.{Within}
-use Rattle.record.specs.Postings.{Terms, said, terms-of, signed, posting-shape}
-use Rattle.record.proofs.Keys.{decides}
+use Rattle.postings.specs.declared.posting.Posting.{Posting}
+use Rattle.postings.specs.declared.posting.Content.{Content}
+use Rattle.postings.specs.declared.posting.Content.the-variants.{Award, Mileage, Capacity, Obligation, Bill}
+use Rattle.postings.specs.declared.posting.Side.{Side}
+use Rattle.postings.specs.declared.posting.Side.the-variants.{Charge, Credit}
+use Rattle.postings.specs.Limits.{Within}
+use Rattle.postings.specs.Postings.{Terms, said, terms-of, signed, posting-shape}
+use Rattle.postings.proofs.Keys.{decides}
 use Rattle.day.specs.declared.sums.Billed.{Billed}
 use Rattle.day.specs.declared.sums.Billed.the-variants.{Member, Everyone}
 use Rattle.day.specs.Bills.{bill-cents, all-cents, cents-for}

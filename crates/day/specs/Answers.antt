@@ -13,7 +13,7 @@ use Rattle.units.specs.declared.quantity.Cents.{Cents}
 use Rattle.refusal.specs.declared.Refusal.{Refusal}
 use Rattle.refusal.specs.declared.Refusal.the-variants.{WrongArgument}
 use Rattle.register.specs.Registers.{put-answer, put, sum-held}
-use Rattle.record.specs.Postings.{Said, shape}
+use Rattle.postings.specs.Postings.{Said, shape}
 use Rattle.record.specs.Reading.{reading}
 use Rattle.day.specs.declared.account.Account.{Account}
 use Rattle.day.specs.declared.account.Account.the-variants.{Rounding, Neutrality, PassThrough}

@@ -3,7 +3,7 @@ use mathlib.Core.Bool.{cond}
 use Prim.Native.Nat.{ℕ}
 use lib.Dec.{eqb}
 use lib.IntN.{ℤ, pos}
-use Rattle.record.specs.Postings.{Terms, award, mileage, capacity, obligation, bill, signed}
+use Rattle.postings.specs.Postings.{Terms, award, mileage, capacity, obligation, bill, signed}
 use Rattle.day.specs.declared.sums.Billed.{Billed}
 use Rattle.day.specs.declared.sums.Billed.the-variants.{Member, Everyone}
 

@@ -5,7 +5,7 @@ use lib.ListN.{replicate}
 use Rattle.std.specs.declared.option.Option.{Option}
 use Rattle.std.specs.declared.option.Option.the-variants.{None}
 use Rattle.roster.specs.Rosters.{Lines}
-use Rattle.record.specs.Postings.{Said}
+use Rattle.postings.specs.Postings.{Said}
 
 -- the roster, and the places for records with what they hold
 pub record State : Type 0 where

@@ -2,7 +2,7 @@
 use Rattle.register.specs.Held.{places-in}
 use Rattle.register.specs.Views.{views}
 use Rattle.roster.specs.Rosters.{roster-of}
-use Rattle.record.specs.Postings.{said}
+use Rattle.postings.specs.Postings.{said}
 use Rattle.day.specs.declared.open_day.OpenDay.{OpenDay}
 use Rattle.day.specs.Days.{State}
 

@@ -5,7 +5,7 @@ ghost use Rattle.day.specs.Accounts.{account-at};
 
 // Rounding: the cents that are left where quantities add up to the divisor. Neutrality: every other left-over.
 // Pass-through: all bills, reversed.
-#[derive(Clone, Copy, PartialEq, Eq, Debug)]
+#[derive(Clone, Copy)]
 pub enum Account {
     Rounding,
     Neutrality,

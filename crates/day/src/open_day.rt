@@ -4,8 +4,8 @@ ghost use mathlib.Core.Path.{_≡_};
 ghost use mathlib.Core.Bool.{true};
 ghost use Rattle.register.specs.Registers.{distinct};
 ghost use Rattle.register.specs.Held.{places-in};
-ghost use Rattle.record.specs.Postings.{posting-shape};
-use record::Posting;
+ghost use Rattle.postings.specs.Postings.{posting-shape};
+use postings::Posting;
 use register::Register;
 use roster::Roster;
 

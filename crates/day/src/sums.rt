@@ -5,10 +5,10 @@ ghost use mathlib.Core.Bool.{true};
 ghost use Prim.Native.Nat.{_≤_, _*_};
 ghost use lib.IntN.{natAbs};
 ghost use Rattle.register.specs.Registers.{distinct, value-of, sum-held};
-ghost use Rattle.record.specs.Postings.{posting-shape, said};
+ghost use Rattle.postings.specs.Postings.{posting-shape, said};
 ghost use Rattle.day.specs.Bills.{cents-for};
-use record::Content;
-use record::Posting;
+use postings::Content;
+use postings::Posting;
 use units::Cents;
 use units::CentsAdd;
 
@@ -36,7 +36,7 @@ fn posting_cents(posting: &Posting, billed: Billed) -> Cents
 {
     match posting.content {
         Content::Bill(bill) => match billed {
-            Billed::Member(member) if usize::from(bill.member.get()) != member => Cents(0),
+            Billed::Member(member) if usize::from(bill.member.value) != member => Cents(0),
             Billed::Member(_) | Billed::Everyone => bill.signed(),
         },
         Content::Award(_) | Content::Mileage(_) | Content::Capacity(_) | Content::Obligation(_) => Cents(0),

@@ -12,9 +12,9 @@ use Rattle.register.specs.Registers.{put-answer, leaves-by, put, value-of, sum-
 use Rattle.register.specs.Taken.{sum-taken}
 use Rattle.register.proofs.Taken.{Holding, holding-fresh, holding-put, sum-put, put-over, each-put, each-fresh, sum-fresh}
 use Rattle.roster.specs.Rosters.{Lines, opening}
-use Rattle.record.specs.Postings.{Terms, award, mileage, capacity, obligation, bill, Said, key-of, shape}
+use Rattle.postings.specs.Postings.{Terms, award, mileage, capacity, obligation, bill, Said, key-of, shape}
 use Rattle.record.specs.Reading.{reading}
-use Rattle.record.proofs.Keys.{decides}
+use Rattle.postings.proofs.Keys.{decides}
 use Rattle.record.proofs.Readings.{Sound, sound, bill-not-replaced}
 use Rattle.day.specs.declared.sums.Billed.{Billed}
 use Rattle.day.specs.declared.sums.Billed.the-variants.{Member, Everyone}

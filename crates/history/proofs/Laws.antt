@@ -25,11 +25,11 @@ use Rattle.register.proofs.Taken.{Holding, admitted, taken, lower-last, lower-n
 use Rattle.register.proofs.Sums.{by-key, over-alike}
 use Rattle.roster.specs.Rosters.{Lines}
 use Rattle.roster.proofs.Openings.{few-members}
-use Rattle.record.specs.declared.posting.Side.{Side}
-use Rattle.record.specs.declared.posting.Key.{Key}
-use Rattle.record.specs.Postings.{Terms, award, mileage, capacity, obligation, bill, Said, key-of, shape, signed}
+use Rattle.postings.specs.declared.posting.Side.{Side}
+use Rattle.postings.specs.declared.posting.Key.{Key}
+use Rattle.postings.specs.Postings.{Terms, award, mileage, capacity, obligation, bill, Said, key-of, shape, signed}
 use Rattle.record.specs.Reading.{reading}
-use Rattle.record.proofs.Keys.{decides}
+use Rattle.postings.proofs.Keys.{decides}
 use Rattle.record.proofs.Readings.{Terms-sound, Sound, sound}
 use Rattle.day.specs.declared.sums.Billed.{Billed}
 use Rattle.day.specs.declared.sums.Billed.the-variants.{Member, Everyone}

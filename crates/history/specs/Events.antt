@@ -9,8 +9,8 @@ use Rattle.std.specs.Options.{mapped}
 use Rattle.refusal.specs.declared.Refusal.{Refusal}
 use Rattle.register.specs.Taken.{latest, sum-taken}
 use Rattle.roster.specs.Rosters.{Lines}
-use Rattle.record.specs.declared.posting.Key.{Key}
-use Rattle.record.specs.Postings.{Terms, Said, shape}
+use Rattle.postings.specs.declared.posting.Key.{Key}
+use Rattle.postings.specs.Postings.{Terms, Said, shape}
 use Rattle.record.specs.Reading.{reading}
 use Rattle.day.specs.declared.calls.Answer.{Answer}
 use Rattle.day.specs.declared.calls.Answer.the-variants.{Taken, Figure, Refused}

@@ -7,9 +7,9 @@ use lib.ListN.{length}
 use Rattle.std.specs.declared.option.Option.the-variants.{None}
 use Rattle.std.specs.declared.result.Result.the-variants.{Ok}
 use Rattle.register.specs.Taken.{latest, keys, All-lower, Admitted}
-use Rattle.record.specs.declared.posting.Side.{Side}
-use Rattle.record.specs.declared.posting.Key.{Key}
-use Rattle.record.specs.Postings.{Said, bill, key-of, shape}
+use Rattle.postings.specs.declared.posting.Side.{Side}
+use Rattle.postings.specs.declared.posting.Key.{Key}
+use Rattle.postings.specs.Postings.{Said, bill, key-of, shape}
 use Rattle.record.specs.Reading.{reading}
 use Rattle.day.specs.declared.account.Account.the-variants.{Rounding, Neutrality, PassThrough}
 use Rattle.day.specs.declared.calls.Answer.{Answer}

@@ -18,13 +18,13 @@ use Rattle.refusal.specs.declared.Refusal.the-variants.{RecordLength, WrongHour
 use Rattle.register.proofs.Basics.{true-false}
 use Rattle.register.proofs.Laws.{ok-err, ok-equal}
 use Rattle.units.specs.declared.bounds.Direction.{Direction}
-use Rattle.roster.specs.Names.{text}
+use Rattle.names.specs.Names.{text}
 use Rattle.roster.specs.Rosters.{Lines, found, position, site-names}
 use Rattle.roster.proofs.Positions.{position-within}
-use Rattle.record.specs.declared.posting.Kind.{Kind}
-use Rattle.record.specs.declared.posting.Kind.the-variants.{Award, Mileage, Capacity, Obligation, Bill}
-use Rattle.record.specs.declared.posting.Side.{Side}
-use Rattle.record.specs.Postings.{Terms, award, mileage, capacity, obligation, bill, Said, key-for, key-of}
+use Rattle.postings.specs.declared.posting.Kind.{Kind}
+use Rattle.postings.specs.declared.posting.Kind.the-variants.{Award, Mileage, Capacity, Obligation, Bill}
+use Rattle.postings.specs.declared.posting.Side.{Side}
+use Rattle.postings.specs.Postings.{Terms, award, mileage, capacity, obligation, bill, Said, key-for, key-of}
 use Rattle.record.specs.Reading.{then, framed, kind-in, direction-in, number-after, between, hour-in, version-in, blank-as, named-in, name-in, limits-of, numbers-in, terms-for, version-for, field, reading}
 
 -- a bill has a member of the roster, a number from 1 to 999 and no version

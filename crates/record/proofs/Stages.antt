@@ -12,9 +12,9 @@ use Rattle.refusal.specs.declared.Refusal.{Refusal}
 use Rattle.refusal.specs.declared.Refusal.the-variants.{RecordLength}
 use Rattle.roster.specs.Rosters.{Lines}
 use Rattle.units.specs.declared.bounds.Direction.{Direction}
-use Rattle.record.specs.declared.posting.Kind.{Kind}
-use Rattle.record.specs.declared.posting.Posting.{Posting}
-use Rattle.record.specs.Postings.{Said, said, version-of, terms-of}
+use Rattle.postings.specs.declared.posting.Kind.{Kind}
+use Rattle.postings.specs.declared.posting.Posting.{Posting}
+use Rattle.postings.specs.Postings.{Said, said, version-of, terms-of}
 use Rattle.record.specs.Reading.{then, field, framed, kind-in, direction-in, hour-in, version-in, name-in, limits-of, numbers-in, terms-for, version-for, reading}
 
 pub pass : {A B : Type 0} (next : A → Result B Refusal) {r : Result A Refusal} {x : A} → r ≡ Ok x → then r next ≡ next x

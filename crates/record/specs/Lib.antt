@@ -1,4 +1,2 @@
-pub mod Limits
-pub mod Postings
 pub mod Reading
 pub mod Subjects

@@ -15,13 +15,13 @@ use Rattle.refusal.specs.declared.Refusal.{Refusal}
 use Rattle.refusal.specs.declared.Refusal.the-variants.{RecordLength, UnknownKind, UnknownDirection, WrongHour, WrongVersion, MalformedName, UnknownName, WrongNumber}
 use Rattle.units.specs.declared.bounds.Direction.{Direction}
 use Rattle.units.specs.declared.bounds.Direction.the-variants.{Up, Down}
-use Rattle.roster.specs.Names.{text}
+use Rattle.names.specs.Names.{text}
 use Rattle.roster.specs.Rosters.{Lines, found, site-names}
-use Rattle.record.specs.declared.posting.Kind.{Kind}
-use Rattle.record.specs.declared.posting.Kind.the-variants.{Award, Mileage, Capacity, Obligation, Bill}
-use Rattle.record.specs.declared.posting.Side.{Side}
-use Rattle.record.specs.declared.posting.Side.the-variants.{Charge, Credit}
-use Rattle.record.specs.Postings.{Terms, award, mileage, capacity, obligation, bill, Said}
+use Rattle.postings.specs.declared.posting.Kind.{Kind}
+use Rattle.postings.specs.declared.posting.Kind.the-variants.{Award, Mileage, Capacity, Obligation, Bill}
+use Rattle.postings.specs.declared.posting.Side.{Side}
+use Rattle.postings.specs.declared.posting.Side.the-variants.{Charge, Credit}
+use Rattle.postings.specs.Postings.{Terms, award, mileage, capacity, obligation, bill, Said}
 
 -- the bytes from a place on, so many of them
 abbrev pub field : ℕ → ℕ → List ℕ → List ℕ

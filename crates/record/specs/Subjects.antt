@@ -1,7 +1,7 @@
 -- What a record is about, as its kind and the index of its name. Assumes nothing.
 use Prim.Native.Nat.{ℕ}
-use Rattle.record.specs.declared.posting.Kind.{Kind}
-use Rattle.record.specs.declared.posting.Kind.the-variants.{Award as AWD, Mileage as MIL, Capacity as CAP, Obligation as OBL, Bill as BIL}
+use Rattle.postings.specs.declared.posting.Kind.{Kind}
+use Rattle.postings.specs.declared.posting.Kind.the-variants.{Award as AWD, Mileage as MIL, Capacity as CAP, Obligation as OBL, Bill as BIL}
 use Rattle.record.specs.declared.reading.Subject.{Subject}
 use Rattle.record.specs.declared.reading.Subject.the-variants.{Award, Mileage, Capacity, Obligation, Bill}
 

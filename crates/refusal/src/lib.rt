@@ -4,7 +4,7 @@ ghost use mathlib.Core.Path.{_≡_};
 ghost use Rattle.refusal.specs.Refusals.{number-of, layer-of, place-of, version-place};
 
 // The layer whose check turned a call back.
-#[derive(Clone, Copy, PartialEq, Eq, Debug)]
+#[derive(Clone, Copy)]
 pub enum Layer {
     Record,
     Register,
@@ -12,7 +12,7 @@ pub enum Layer {
 }
 
 // What was posted: its version stands at another place in each.
-#[derive(Clone, Copy, PartialEq, Eq, Debug)]
+#[derive(Clone, Copy)]
 pub enum Document {
     Record,
     Signal,
@@ -31,7 +31,7 @@ impl Document {
     }
 }
 
-#[derive(Clone, Copy, PartialEq, Eq, Debug)]
+#[derive(Clone, Copy)]
 pub enum Refusal {
     // Opening a day.
     MemberCount,

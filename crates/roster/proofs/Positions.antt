@@ -14,8 +14,8 @@ use Rattle.std.specs.shelf.Text.{sameBytes}
 use Rattle.std.proofs.shelf.Equals.{sameBytes-decides}
 use Rattle.std.proofs.shelf.Lists.{drop-more, drop-all, map-more}
 use Rattle.std.proofs.shelf.Tests.{cond-true, cond-false}
-use Rattle.roster.specs.declared.names.Malformed.{Malformed}
-use Rattle.roster.specs.Names.{compared}
+use Rattle.names.specs.declared.Malformed.{Malformed}
+use Rattle.names.specs.Names.{compared}
 use Rattle.roster.specs.Rosters.{first, position, found, wrong, wrong-after}
 
 -- what is left of a row from the index i on

@@ -15,7 +15,7 @@ use Rattle.refusal.specs.declared.Refusal.the-variants.{MemberCount, SiteCount,
 use Rattle.roster.specs.declared.entries.Member.{Member}
 use Rattle.roster.specs.declared.entries.Site.{Site}
 use Rattle.roster.specs.declared.table.Roster.{Roster}
-use Rattle.roster.specs.Names.{well-formed}
+use Rattle.names.specs.Names.{well-formed}
 
 -- a site: the index of its member, and its name
 pub record SiteLine : Type 0 where

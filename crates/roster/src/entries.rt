@@ -46,7 +46,7 @@ pub impl<'a> Named for Site<'a> as SiteNamed {
 // A member by its index, 0 to 15.
 #[derive(Clone, Copy)]
 pub struct MemberIndex {
-    value: u8,
+    pub value: u8,
     ghost within: { value < 16 },
 }
 
@@ -60,19 +60,12 @@ impl MemberIndex {
             None
         }
     }
-
-    pub fn get(self) -> u8
-        ensures value { λ r. ⌜ r ≡ self .value ⌝ }
-        ensures within { λ r. ⌜ r < 16 ⌝ }
-    {
-        self.value
-    }
 }
 
 // A site by its index, 0 to 31.
 #[derive(Clone, Copy)]
 pub struct SiteIndex {
-    value: u8,
+    pub value: u8,
     ghost within: { value < 32 },
 }
 
@@ -85,12 +78,5 @@ impl SiteIndex {
         } else {
             None
         }
-    }
-
-    pub fn get(self) -> u8
-        ensures value { λ r. ⌜ r ≡ self .value ⌝ }
-        ensures within { λ r. ⌜ r < 32 ⌝ }
-    {
-        self.value
     }
 }

@@ -1,7 +1,6 @@
 //! The members of the pool and their sites, and the names that records call them by.
 
 pub mod entries;
-pub mod names;
 pub mod opening;
 mod rows;
 pub mod table;
@@ -10,7 +9,5 @@ pub use entries::Member;
 pub use entries::MemberIndex;
 pub use entries::Site;
 pub use entries::SiteIndex;
-pub use names::Malformed;
-pub use names::is_blank;
 pub use opening::may_open;
 pub use table::Roster;

@@ -6,11 +6,11 @@ ghost use Prim.Native.Nat.{_<_};
 ghost use lib.ListN.{length};
 ghost use Rattle.std.specs.Slices.{found as where-some};
 ghost use Rattle.std.specs.shelf.Text.{sameBytes};
-ghost use Rattle.roster.specs.Names.{text};
+ghost use Rattle.names.specs.Names.{text};
 ghost use Rattle.roster.specs.Rosters.{position as position-of, found, wrong, wrong-name};
 use crate::entries::Named;
-use crate::names::is_well_formed;
-use crate::names::reads_as;
+use names::is_well_formed;
+use names::reads_as;
 
 fn is_same(a: &[u8], b: &[u8]) -> bool
     ensures { λ r. ⌜ r ≡ sameBytes (now (a .entry)) (now (b .entry)) ⌝ }

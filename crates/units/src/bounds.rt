@@ -5,7 +5,7 @@ ghost use Prim.Native.Nat.{_<_, _≤_};
 ghost use Rattle.std.specs.Options.{Cases};
 
 // Up: the site is told to give more, down: less.
-#[derive(Clone, Copy, PartialEq, Eq, Debug)]
+#[derive(Clone, Copy, PartialEq, Eq)]
 pub enum Direction {
     Up,
     Down,
@@ -14,7 +14,7 @@ pub enum Direction {
 // An hour of the trading day, 0 to 23.
 #[derive(Clone, Copy)]
 pub struct Hour {
-    value: u8,
+    pub value: u8,
     ghost within: { value < 24 },
 }
 
@@ -24,19 +24,12 @@ impl Hour {
     {
         if value < 24 { Some(Hour { value }) } else { None }
     }
-
-    pub fn get(self) -> u8
-        ensures value { λ r. ⌜ r ≡ self .value ⌝ }
-        ensures within { λ r. ⌜ r < 24 ⌝ }
-    {
-        self.value
-    }
 }
 
 // A quarter of an hour, 0 to 3.
 #[derive(Clone, Copy)]
 pub struct Quarter {
-    value: u8,
+    pub value: u8,
     ghost within: { value < 4 },
 }
 
@@ -46,19 +39,12 @@ impl Quarter {
     {
         if value < 4 { Some(Quarter { value }) } else { None }
     }
-
-    pub fn get(self) -> u8
-        ensures value { λ r. ⌜ r ≡ self .value ⌝ }
-        ensures within { λ r. ⌜ r < 4 ⌝ }
-    {
-        self.value
-    }
 }
 
 // How often a posting was corrected, 1 to 999: the higher version stands.
 #[derive(Clone, Copy)]
 pub struct Version {
-    value: u16,
+    pub value: u16,
     ghost low: { 1 ≤ value },
     ghost high: { value ≤ 999 },
 }
@@ -68,13 +54,5 @@ impl Version {
         ensures { λ r. ⌜ Cases r ((1 ≤ value) → 999 < value) (λ v. v .value ≡ value) ⌝ }
     {
         if value >= 1 && value <= 999 { Some(Version { value }) } else { None }
-    }
-
-    pub fn get(self) -> u16
-        ensures value { λ r. ⌜ r ≡ self .value ⌝ }
-        ensures low { λ r. ⌜ 1 ≤ r ⌝ }
-        ensures high { λ r. ⌜ r ≤ 999 ⌝ }
-    {
-        self.value
     }
 }

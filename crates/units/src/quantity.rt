@@ -8,15 +8,15 @@ use std::ops::Add;
 use std::ops::Neg;
 
 // Power, or mileage, in whole kilowatts.
-#[derive(Clone, Copy, PartialEq, Eq, Debug)]
+#[derive(Clone, Copy)]
 pub struct Kw(pub i64);
 
 // A price in whole cents per megawatt.
-#[derive(Clone, Copy, PartialEq, Eq, Debug)]
+#[derive(Clone, Copy)]
 pub struct CentsPerMw(pub i64);
 
 // Money in whole cents: above zero what a member owes, below zero what it is owed.
-#[derive(Clone, Copy, PartialEq, Eq, Debug)]
+#[derive(Clone, Copy)]
 pub struct Cents(pub i64);
 
 pub impl Add<Cents> for Cents as CentsAdd {

@@ -7,7 +7,7 @@ ghost use Rattle.std.specs.Options.{mapped};
 ghost use Rattle.std.specs.Slices.{found as where-some};
 ghost use Rattle.std.specs.declared.result.Result.the-variants.{Ok};
 ghost use Rattle.roster.specs.Rosters.{lines-of, roster-of, site-names, found, opening};
-ghost use Rattle.roster.specs.Names.{text};
+ghost use Rattle.names.specs.Names.{text};
 use crate::entries::Member;
 use crate::entries::MemberIndex;
 use crate::entries::MemberNamed;

@@ -5,8 +5,8 @@ use lib.IntN.{ℤ, pos, natAbs, _+ℤ_, +ℤ-assoc, +ℤ-idr}
 use lib.ListN.{drop, getD}
 use Rattle.std.proofs.shelf.Lists.{at-drop-more, at-drop-all, drop-more}
 use Rattle.register.specs.Registers.{value-of, sum-held}
-use Rattle.record.specs.declared.posting.Posting.{Posting}
-use Rattle.record.specs.Postings.{said}
+use Rattle.postings.specs.declared.posting.Posting.{Posting}
+use Rattle.postings.specs.Postings.{said}
 use Rattle.day.specs.Bills.{cents-for}
 use Rattle.day.proofs.Totals.{sum-limit, total-fits}
 use Rattle.day.proofs.sums.sum_bills.Needs as need

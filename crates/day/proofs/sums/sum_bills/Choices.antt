@@ -2,7 +2,7 @@ use mathlib.Core.Path.{_≡_}
 use lib.IntN.{_+ℤ_}
 use lib.ListN.{drop}
 use Rattle.register.specs.Registers.{sum-held}
-use Rattle.record.specs.Postings.{said}
+use Rattle.postings.specs.Postings.{said}
 use Rattle.day.specs.Bills.{cents-for}
 use Rattle.day.proofs.sums.sum_bills.Given as given
 

@@ -1,6 +1,6 @@
 use mathlib.Core.Path.{sym, _∙_}
 use mathlib.Core.List.{map}
-use Rattle.roster.specs.Names.{text}
+use Rattle.names.specs.Names.{text}
 use Rattle.roster.proofs.Positions.{name-left, none-left, counted-zero, found-here, found-more, found-none, malformed}
 use Rattle.roster.proofs.rows.find.Needs as need
 

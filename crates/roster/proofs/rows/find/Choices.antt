@@ -1,7 +1,7 @@
 use mathlib.Core.Path.{_≡_}
 use mathlib.Core.List.{map}
 use lib.ListN.{drop}
-use Rattle.roster.specs.Names.{text}
+use Rattle.names.specs.Names.{text}
 use Rattle.roster.specs.Rosters.{found}
 use Rattle.roster.proofs.Positions.{counted}
 use Rattle.roster.proofs.rows.find.Given as given

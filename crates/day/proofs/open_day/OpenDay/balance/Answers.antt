@@ -10,8 +10,8 @@ use Rattle.register.specs.Registers.{sum-held}
 use Rattle.register.specs.Held.{places-in}
 use Rattle.register.proofs.Views.{sum-view}
 use Rattle.roster.specs.Rosters.{roster-of}
-use Rattle.record.specs.declared.posting.Posting.{Posting}
-use Rattle.record.specs.Postings.{said, shape}
+use Rattle.postings.specs.declared.posting.Posting.{Posting}
+use Rattle.postings.specs.Postings.{said, shape}
 use Rattle.day.specs.Bills.{bill-cents}
 use Rattle.day.specs.Answers.{cents, balance-of}
 use Rattle.day.specs.States.{state-of}

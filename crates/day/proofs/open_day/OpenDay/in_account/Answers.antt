@@ -3,8 +3,8 @@ use lib.IntN.{ℤ, negℤ}
 use Rattle.register.specs.Registers.{sum-held}
 use Rattle.register.specs.Held.{places-in}
 use Rattle.register.proofs.Views.{sum-view}
-use Rattle.record.specs.declared.posting.Posting.{Posting}
-use Rattle.record.specs.Postings.{said, shape}
+use Rattle.postings.specs.declared.posting.Posting.{Posting}
+use Rattle.postings.specs.Postings.{said, shape}
 use Rattle.day.specs.Bills.{all-cents}
 use Rattle.day.specs.Answers.{account-of}
 use Rattle.day.specs.States.{state-of}

@@ -5,7 +5,7 @@ use Rattle.register.specs.Views.{views}
 use Rattle.register.proofs.Laws.{distinct-fresh}
 use Rattle.register.proofs.Views.{fresh-view}
 use Rattle.roster.specs.Rosters.{roster-of}
-use Rattle.record.specs.Postings.{posting-shape, said, shape}
+use Rattle.postings.specs.Postings.{posting-shape, said, shape}
 use Rattle.day.specs.Days.{State}
 use Rattle.day.proofs.open_day.OpenDay.open.Needs as need
 

@@ -4,7 +4,7 @@ use borrow.Author.Needs.{needs}
 use lib.ListN.{length}
 use Rattle.std.proofs.shelf.Lists.{length-map}
 use Rattle.roster.specs.declared.entries.SiteIndex.{SiteIndex}
-use Rattle.roster.specs.Names.{text}
+use Rattle.names.specs.Names.{text}
 use Rattle.roster.specs.Rosters.{found, line-of}
 use Rattle.roster.proofs.Indices.{index-value, index-within, no-index-value, no-index-within}
 use Rattle.roster.proofs.Openings.{site-names-of}
