@@ -20,7 +20,7 @@ pub enum Document {
 }
 
 impl Document {
-    pub fn version_place(self) -> u16
+    fn version_place(self) -> u16
         ensures { λ r. ⌜ r ≡ version-place self ⌝ }
     {
         match self {

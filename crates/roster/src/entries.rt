@@ -51,7 +51,7 @@ pub struct MemberIndex {
 }
 
 impl MemberIndex {
-    pub fn new(value: u8) -> Option<MemberIndex>
+    pub(crate) fn new(value: u8) -> Option<MemberIndex>
         ensures { λ r. ⌜ Cases r (16 ≤ value) (λ i. i .value ≡ value) ⌝ }
     {
         if value < 16 {
@@ -70,7 +70,7 @@ pub struct SiteIndex {
 }
 
 impl SiteIndex {
-    pub fn new(value: u8) -> Option<SiteIndex>
+    pub(crate) fn new(value: u8) -> Option<SiteIndex>
         ensures { λ r. ⌜ Cases r (32 ≤ value) (λ i. i .value ≡ value) ⌝ }
     {
         if value < 32 {
