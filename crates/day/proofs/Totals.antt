@@ -19,10 +19,8 @@ use Rattle.register.proofs.Sums.{bounded}
 use Rattle.postings.specs.declared.posting.Posting.{Posting}
 use Rattle.postings.specs.declared.posting.Content.{Content}
 use Rattle.postings.specs.declared.posting.Content.the-variants.{Award, Mileage, Capacity, Obligation, Bill}
-use Rattle.postings.specs.declared.posting.Side.{Side}
-use Rattle.postings.specs.declared.posting.Side.the-variants.{Charge, Credit}
-use Rattle.postings.specs.Limits.{Within}
 use Rattle.postings.specs.Postings.{Terms, said, terms-of, signed, posting-shape}
+use Rattle.postings.proofs.Bills.{signed-within}
 use Rattle.postings.proofs.Keys.{decides}
 use Rattle.day.specs.declared.sums.Billed.{Billed}
 use Rattle.day.specs.declared.sums.Billed.the-variants.{Member, Everyone}
@@ -40,15 +38,6 @@ posting-bounded p = go (p .content)
     go (Obligation o) = tt
     go (Bill b) = record { hours = p .hour .within; members = b .member .within; low = b .number .low; high = b .number .high }
 
-abs-within : (limit : ℕ) (z : ℤ) → Within limit z → natAbs z ≤ limit
-abs-within limit z h = let low = h .0 in let high = h .1 in grind (arith, ints)
-
-abs-signed : (side : Side) (z : ℤ) → natAbs (signed side z) ≡ natAbs z
-abs-signed Charge z = refl
-abs-signed Credit (pos zero) = refl
-abs-signed Credit (pos (suc n)) = refl
-abs-signed Credit (negsuc n) = refl
-
 posting-limit : (billed : Billed) (p : Posting) → natAbs (cents-for billed (said p .terms)) ≤ 999999
 posting-limit billed p = go billed (p .content)
   where
@@ -65,8 +54,8 @@ posting-limit billed p = go billed (p .content)
     go Everyone (Mileage m) = omega arith
     go Everyone (Capacity c) = omega arith
     go Everyone (Obligation o) = omega arith
-    go (Member m) (Bill b) = if-member (eqb (b .member .value) m) (signed (b .side) (b .amount .0)) (subst (λ n. n ≤ 999999) (sym (abs-signed (b .side) (b .amount .0))) (abs-within 999999 (b .amount .0) (b .«amount_within»)))
-    go Everyone (Bill b) = subst (λ n. n ≤ 999999) (sym (abs-signed (b .side) (b .amount .0))) (abs-within 999999 (b .amount .0) (b .«amount_within»))
+    go (Member m) (Bill b) = if-member (eqb (b .member .value) m) (signed (b .side) (b .amount .0)) (signed-within (b .side) 999999 (b .amount .0) (b .«amount_within»))
+    go Everyone (Bill b) = signed-within (b .side) 999999 (b .amount .0) (b .«amount_within»)
 
 -- ---- the sum over the rest of the places
 each-all : {E : Type 0} (P : E → Type 0) → ((x : E) → P x) → (xs : List (Option E)) → Each P xs

@@ -1,4 +1,4 @@
-use mathlib.Core.Path.{_≡_, sym, ap, subst, _∙_}
+use mathlib.Core.Path.{_≡_, sym, ap, subst}
 use Prim.Native.Nat.{_≤_}
 use lib.IntN.{ℤ, natAbs}
 use Rattle.postings.specs.declared.posting.Bill.{Bill}
@@ -13,10 +13,4 @@ pub returns-in-Charge : need.returns-in-Charge
 returns-in-Charge c =
     let b = c .args .self in
     let is : b .amount .0 ≡ signed (b .side) (b .amount .0) = ap (λ side. signed side (b .amount .0)) (sym (c .in-Charge .is)) in
-    record { value = is; bound = bounded b _ is }
-
-pub returns-in-Credit : need.returns-in-Credit
-returns-in-Credit c =
-    let b = c .args .self in
-    let is : c .neg .result .0 ≡ signed (b .side) (b .amount .0) = c .neg .ensures ∙ ap (λ side. signed side (b .amount .0)) (sym (c .in-Credit .is)) in
     record { value = is; bound = bounded b _ is }
