@@ -39,7 +39,8 @@ fn posting_cents(posting: &Posting, billed: Billed) -> Cents
             Billed::Member(member) if usize::from(bill.member.value) != member => Cents(0),
             Billed::Member(_) | Billed::Everyone => bill.signed(),
         },
-        Content::Award(_) | Content::Mileage(_) | Content::Capacity(_) | Content::Obligation(_) => Cents(0),
+        Content::Award(_) | Content::Mileage(_) | Content::Capacity(_) | Content::Obligation(_) =>
+            Cents(0),
     }
 }
 

@@ -22,7 +22,7 @@ use Rattle.refusal.specs.declared.Refusal.the-variants.{WrongArgument}
 use Rattle.register.specs.Registers.{look, put-answer, value-of, sum-held, sum-over, Each, Space}
 use Rattle.register.specs.Taken.{latest, keys, Admitted, sum-taken}
 use Rattle.register.proofs.Taken.{Holding, admitted, taken, lower-last, lower-none}
-use Rattle.register.proofs.Sums.{by-key, over-alike}
+use Rattle.register.proofs.Sums.{interchange, by-key, over-alike}
 use Rattle.roster.specs.Rosters.{Lines}
 use Rattle.roster.proofs.Openings.{few-members}
 use Rattle.postings.specs.declared.posting.Side.{Side}
@@ -111,9 +111,6 @@ sum-nothing : (n : ℕ) → sum-below (λ m. pos 0) n ≡ pos 0
 sum-nothing zero = refl
 sum-nothing (suc n) = +ℤ-idr (sum-below (λ m. pos 0) n) ∙ sum-nothing n
 
-interchange : (a b c d : ℤ) → (a +ℤ b) +ℤ (c +ℤ d) ≡ (a +ℤ c) +ℤ (b +ℤ d)
-interchange a b c d = omega (arith, ints)
-
 sum-both : (f g : ℕ → ℤ) (n : ℕ) → sum-below (λ m. f m +ℤ g m) n ≡ sum-below f n +ℤ sum-below g n
 sum-both f g zero = refl
 sum-both f g (suc n) = ap (λ z. z +ℤ (f n +ℤ g n)) (sum-both f g n) ∙ interchange (sum-below f n) (sum-below g n) (f n) (g n)
@@ -154,7 +151,7 @@ adds-up-to-zero o es s run =
     let k = kept o run in
     let n = length (o .roster .members) in
     let members : sum-below (λ m. figure-in (answer s (balance m))) n ≡ sum-held (adds Everyone) (s .records) =
-      sum-alike (λ m. figure-in (answer s (balance m))) (balance-of s) n (λ m lt. ap figure-in (balance-is o _ s k m lt)) ∙ members-all (o .roster) (s .records) (k .sounds) in
+    sum-alike (λ m. figure-in (answer s (balance m))) (balance-of s) n (λ m lt. ap figure-in (balance-is o _ s k m lt)) ∙ members-all (o .roster) (s .records) (k .sounds) in
     ap (λ z. z +ℤ sum-below (λ i. figure-in (answer s (account i))) 3) members ∙ no-sum (sum-held (adds Everyone) (s .records))
 
 -- ---- figures depend on holdings alone
@@ -189,12 +186,12 @@ same-sums : (o p : Opening) (xs ys : List Said) (s t : State) → Kept o xs s �
 same-sums o p xs ys s t j k same billed =
     over-keys o xs s j billed
     ∙ over-alike shape (adds billed) bill-key (s .records) (t .records)
-      (λ key.
-        value-terms (cents-for billed) (look shape key (s .records))
-        ∙ ap (λ l. value-of (cents-for billed) (mapped (λ said. said .terms) l)) (j .holding .looks key)
-        ∙ ap (value-of (cents-for billed)) (same key)
-        ∙ sym (value-terms (cents-for billed) (look shape key (t .records)) ∙ ap (λ l. value-of (cents-for billed) (mapped (λ said. said .terms) l)) (k .holding .looks key)))
-      767232
+    (λ key.
+    value-terms (cents-for billed) (look shape key (s .records))
+    ∙ ap (λ l. value-of (cents-for billed) (mapped (λ said. said .terms) l)) (j .holding .looks key)
+    ∙ ap (value-of (cents-for billed)) (same key)
+    ∙ sym (value-terms (cents-for billed) (look shape key (t .records)) ∙ ap (λ l. value-of (cents-for billed) (mapped (λ said. said .terms) l)) (k .holding .looks key)))
+    767232
     ∙ sym (over-keys p ys t k billed)
 
 pub figures-depend-on-holdings-alone : Figures-depend-on-holdings-alone
@@ -202,9 +199,9 @@ figures-depend-on-holdings-alone o p es fs s t run run′ rosters same =
     let j = kept o run in
     let k = kept p run′ in
     let sums = same-sums o p (records-taken (o .roster) es) (records-taken (p .roster) fs) s t j k same in
-    let roster : s .roster ≡ t .roster = j .roster ∙ rosters ∙ sym (k .roster) in
-    ( (λ m. ap₂ (λ r z. figure-answer (cond (ltb m (length (r .members))) (Ok (cents z)) (Err (WrongArgument 0)))) roster (sums (Member m)))
-    , (λ n. ap figure-answer (by-account (account-at n) (sums Everyone)))
+    let roster : s .roster ≡ t .roster = j .roster ∙ rosters ∙ sym (k .roster) in (
+      (λ m. ap₂ (λ r z. figure-answer (cond (ltb m (length (r .members))) (Ok (cents z)) (Err (WrongArgument 0)))) roster (sums (Member m))),
+      (λ n. ap figure-answer (by-account (account-at n) (sums Everyone))),
     )
   where
     by-account : (a : Option Account) → sum-held (adds Everyone) (s .records) ≡ sum-held (adds Everyone) (t .records) → account-answer-by s a ≡ account-answer-by t a

@@ -16,7 +16,11 @@ use std::alloc::AllocError;
 use std::alloc::Global;
 
 // Makes the calls, and hands back their answers, one for one. Where memory for the answers is wanting, no call is made.
-pub fn replay(heap: Global, day: &mut OpenDay<'_>, calls: &[Call<'_>]) -> Result<Vec<Answer>, AllocError>
+pub fn replay(
+    heap: Global,
+    day: &mut OpenDay<'_>,
+    calls: &[Call<'_>],
+) -> Result<Vec<Answer>, AllocError>
     ensures leaves { λ r. ⌜ Cases r (λ v. state-of (now (day .exit)) ≡ play (state-of (now (day .entry))) (map request-of (now (calls .entry)))) (λ _. state-of (now (day .exit)) ≡ state-of (now (day .entry))) ⌝ }
     ensures answers { λ r. ⌜ Cases r (λ v. vec-items v ≡ map (λ e. e .answer) (events (state-of (now (day .entry))) (map request-of (now (calls .entry))))) (λ _. Unit {0}) ⌝ }
     ensures calls { λ r. ⌜ map (λ e. e .request) (events (state-of (now (day .entry))) (map request-of (now (calls .entry)))) ≡ map request-of (now (calls .entry)) ⌝ }

@@ -17,7 +17,7 @@ use Rattle.register.specs.Registers.{look, distinct, value-of, sum-held, sum-o
 use Rattle.register.proofs.Basics.{none-some, true-false, different, not-same}
 use Rattle.register.proofs.Laws.{first-apart}
 
-interchange : (a b c d : ℤ) → (a +ℤ b) +ℤ (c +ℤ d) ≡ (a +ℤ c) +ℤ (b +ℤ d)
+pub interchange : (a b c d : ℤ) → (a +ℤ b) +ℤ (c +ℤ d) ≡ (a +ℤ c) +ℤ (b +ℤ d)
 interchange a b c d = omega (arith, ints)
 
 module _ {E K : Type 0} (w : Shape E K) (d : Decides (w .same)) (f : E → ℤ) (space : ℕ → K) where

@@ -22,7 +22,11 @@ impl Hour {
     pub fn new(value: u8) -> Option<Hour>
         ensures { λ r. ⌜ Cases r (24 ≤ value) (λ h. h .value ≡ value) ⌝ }
     {
-        if value < 24 { Some(Hour { value }) } else { None }
+        if value < 24 {
+            Some(Hour { value })
+        } else {
+            None
+        }
     }
 }
 
@@ -37,7 +41,11 @@ impl Quarter {
     pub fn new(value: u8) -> Option<Quarter>
         ensures { λ r. ⌜ Cases r (4 ≤ value) (λ q. q .value ≡ value) ⌝ }
     {
-        if value < 4 { Some(Quarter { value }) } else { None }
+        if value < 4 {
+            Some(Quarter { value })
+        } else {
+            None
+        }
     }
 }
 
@@ -53,6 +61,10 @@ impl Version {
     pub fn new(value: u16) -> Option<Version>
         ensures { λ r. ⌜ Cases r ((1 ≤ value) → 999 < value) (λ v. v .value ≡ value) ⌝ }
     {
-        if value >= 1 && value <= 999 { Some(Version { value }) } else { None }
+        if value >= 1 && value <= 999 {
+            Some(Version { value })
+        } else {
+            None
+        }
     }
 }

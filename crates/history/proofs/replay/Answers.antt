@@ -36,12 +36,12 @@ loop-call-again c =
     let i = c .loop-call .call-index in
     let s = state-of (c .loop-call .day) in
     let t = state-of (c .make .last .day) in
-    let lt = c .loop-call-test .taken in
-    ( play-more request-of calls i _ s t lt (c .make .ensures .leaves) ∙ c .loop-call .inv .0
-    , ap (λ items. items ++ answers t (map request-of (drop (i + 1) calls))) (c .push-reserved .ensures .items)
-      ∙ answers-more request-of calls i _ s t _ _ lt (c .make .ensures .leaves) (c .make .ensures .answers) ∙ c .loop-call .inv .1
-    , omega arith
-    , omega arith
+    let lt = c .loop-call-test .taken in (
+      play-more request-of calls i _ s t lt (c .make .ensures .leaves) ∙ c .loop-call .inv .0,
+      ap (λ items. items ++ answers t (map request-of (drop (i + 1) calls))) (c .push-reserved .ensures .items)
+          ∙ answers-more request-of calls i _ s t _ _ lt (c .make .ensures .leaves) (c .make .ensures .answers) ∙ c .loop-call .inv .1,
+      omega arith,
+      omega arith,
     )
 
 pub returns : need.returns

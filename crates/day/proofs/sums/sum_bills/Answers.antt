@@ -25,7 +25,7 @@ loop-place-again c =
     let t = c .loop-place .total .0 in
     let rest = sum-held f (drop (i + 1) xs) in
     let more : sum-held f (drop i xs) ≡ value-of f (c .place-item .result) +ℤ rest =
-      at-drop-more (sum-held f) xs i (c .place-item .result) (c .loop-place-test .taken) ∙ ap (λ x. value-of f x +ℤ rest) (sym (c .place-item .is)) in
+    at-drop-more (sum-held f) xs i (c .place-item .result) (c .loop-place-test .taken) ∙ ap (λ x. value-of f x +ℤ rest) (sym (c .place-item .is)) in
     ap (λ z. z +ℤ rest) (c .add-total .ensures) ∙ +ℤ-assoc t (c .cents-of .result .0) rest
     ∙ ap (λ z. t +ℤ (z +ℤ rest)) (c .cents-of .ensures .value) ∙ ap (λ z. t +ℤ z) (sym more) ∙ c .loop-place .inv
 

@@ -23,6 +23,6 @@ returns-then-member-member-count c =
     let m = c .args .member in
     let f : Posting → ℤ = λ p. bill-cents m (said p .terms) in
     let sum : c .sum-bills .result .0 ≡ balance-of (state-of day) m =
-      c .sum-bills .ensures .value ∙ ap (sum-held f) (c .entries .ensures .value) ∙ sum-view said shape (λ s. bill-cents m (s .terms)) (places-in (day .records)) in
+    c .sum-bills .ensures .value ∙ ap (sum-held f) (c .entries .ensures .value) ∙ sum-view said shape (λ s. bill-cents m (s .terms)) (places-in (day .records)) in
     let within : ltb m (length (roster-of (day .roster) .members)) ≡ true = ap (ltb m) (sym (c .member-count .ensures .count)) ∙ lt-ltb m (c .member-count .result) (c .if-member-member-count .taken) in
     ap (λ z. Ok (cents z)) sum ∙ sym (ap (λ b. cond b (Ok (cents (balance-of (state-of day) m))) (Err (WrongArgument 0))) within)
