@@ -1,0 +1,2 @@
+pub mod Gatherings
+pub mod Postings
