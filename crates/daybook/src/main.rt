@@ -1,7 +1,5 @@
 //! `daybook JOURNAL` makes the calls of a journal, one to a line, and prints what became of each.
 
-mod calls;
-mod opening;
 mod output;
 mod run;
 

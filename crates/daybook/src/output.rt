@@ -1,11 +1,11 @@
 //! What is printed, and the count of it.
 
-use journal::Label;
-use journal::Outcome;
-use journal::Tally;
-use journal::TallyDisplay;
-use journal::report;
 use journal::split_word;
+use outcomes::Label;
+use outcomes::Outcome;
+use outcomes::Tally;
+use outcomes::TallyDisplay;
+use outcomes::report;
 use std::alloc::Global;
 use std::io;
 use std::io::BufWriter;

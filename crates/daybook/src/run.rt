@@ -1,25 +1,58 @@
 //! A journal from its first line to its last.
 
-use crate::calls::make_one;
-use crate::calls::outcome_of;
-use crate::calls::post;
-use crate::calls::post_all;
-use crate::calls::question;
-use crate::opening::before_day;
+ghost use mathlib.Core.Path.{_≡_};
+ghost use Rattle.std.specs.Of.Vec.{vec-items};
+ghost use Rattle.std.specs.declared.result.Result.the-variants.{Ok};
+ghost use Rattle.roster.specs.Rosters.{lines-of, opening};
+ghost use Rattle.session.specs.Openings.{When-opened};
 use crate::output::Output;
 use day::Answer;
 use day::OpenDay;
-use journal::Label;
 use journal::Line;
 use journal::Lines;
-use journal::Outcome;
-use journal::Reason;
 use journal::located;
 use journal::read_line;
+use outcomes::Label;
+use outcomes::Outcome;
+use outcomes::Reason;
+use roster::Member;
 use roster::Roster;
+use roster::Site;
+use session::RecordPlaces;
+use session::Step;
+use session::make_one;
+use session::outcome_of;
+use session::post;
+use session::post_all;
+use session::question;
+use session::take_line;
+use std::alloc::Global;
 use std::fs;
 use std::io;
 use std::str::from_utf8;
+
+// Goes through the lines until a day is opened, and leaves its roster and its places.
+pub fn before_day<'j>(
+    heap: Global,
+    lines: &mut Lines<'j>,
+    members: &mut Vec<Member<'j>>,
+    sites: &mut Vec<Site<'j>>,
+    output: &mut Output,
+) -> io::Result<Option<RecordPlaces>>
+    ensures { λ r. ⌜ When-opened r (opening (lines-of (vec-items (now (members .exit))) (vec-items (now (sites .exit)))) ≡ Ok tt) ⌝ }
+{
+    while let Some((number, line)) = lines.next() {
+        match take_line(heap, members, sites, line) {
+            Step::Silent => {}
+            Step::Printed(outcome) => output.print_line(number, line, outcome)?,
+            Step::Opened(places) => {
+                output.print_line(number, line, Outcome::Taken)?;
+                return Ok(Some(places));
+            }
+        }
+    }
+    Ok(None)
+}
 
 fn read_file(rt: &LibcRuntime, path: &str, file: &[u8]) -> Result<Vec<u8>, Reason> {
     let Ok(path) = located(rt.alloc(), path.as_bytes(), file) else {

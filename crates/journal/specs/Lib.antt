@@ -1,6 +1,5 @@
 pub mod Bytes
 pub mod Lines
-pub mod Outcomes
 pub mod Paths
 pub mod Reading
 pub mod Words

@@ -11,8 +11,8 @@ use Rattle.std.specs.declared.result.Result.{Result}
 use Rattle.std.specs.declared.result.Result.the-variants.{Ok, Err}
 use Rattle.std.specs.shelf.Text.{sameBytes}
 use Rattle.journal.specs.Words.{word-of, after-word, number-of}
-use Rattle.journal.specs.declared.outcome.Reason.{Reason}
-use Rattle.journal.specs.declared.outcome.Reason.the-variants.{UnknownWord, MissingWords, TooManyWords, NotANumber}
+use Rattle.outcomes.specs.declared.outcome.Reason.{Reason}
+use Rattle.outcomes.specs.declared.outcome.Reason.the-variants.{UnknownWord, MissingWords, TooManyWords, NotANumber}
 use Rattle.journal.specs.declared.read.Places.{Places}
 use Rattle.journal.specs.declared.read.Word.{Word}
 use Rattle.journal.specs.declared.read.Word.the-variants.{Empty as no-word, Member as member-word, Site as site-word, Open as open-word, Record as record-word, Records as records-word, Balance as balance-word, Account as account-word, Unknown as unknown-word}

@@ -7,9 +7,9 @@ ghost use Rattle.std.specs.declared.result.Result.the-variants.{Ok, Err};
 ghost use Rattle.std.specs.shelf.Text.{sameBytes};
 ghost use Rattle.journal.specs.Reading.{request, request-of, known-word, text-after, only-word, places-of, by-word};
 ghost use Rattle.journal.specs.declared.read.Word.the-variants.{Site as a-site};
-use crate::outcome::Reason;
 use crate::words::number;
 use crate::words::split_word;
+use outcomes::Reason;
 
 // The numbers of places of the three registers.
 #[derive(Clone, Copy)]
