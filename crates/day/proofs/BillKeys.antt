@@ -2,10 +2,9 @@
 use Rattle.std.proofs.Common.{◌≡◌, ℕ, zero, suc, ◌+◌, ◌-◌, ◌*◌, ◌/◌, ◌%◌, ◌<◌, ◌≤◌, Bool, true, false, cond, ◌⊎◌, ℤ, pos, sym, refl, ap, ◌∙◌, ap₂, inl, inr, arith}
 use Rattle.units.specs.declared.bounds.Direction.{Direction}
 use Rattle.units.specs.declared.bounds.Direction.TheVariants.{Up, Down}
-use Rattle.units.specs.Directions.{direction_number}
 use Rattle.postings.specs.declared.posting.Kind.TheVariants.{Bill as BIL}
 use Rattle.postings.specs.declared.posting.Key.{Key}
-use Rattle.postings.specs.Postings.{Terms, award, mileage, capacity, obligation, bill, Said, key_for, key_of}
+use Rattle.postings.specs.Postings.{Terms, award, mileage, capacity, obligation, bill, Said, key_for, key_of, direction_number}
 use Rattle.day.specs.declared.sums.Billed.{Billed}
 use Rattle.day.specs.declared.sums.Billed.TheVariants.{Member, Everyone}
 use Rattle.day.specs.Bills.{cents_for}

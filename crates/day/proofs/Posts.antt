@@ -1,20 +1,24 @@
--- What is put into a register of the day is what was posted to it. Assumes nothing.
-use Rattle.std.proofs.Common.{◌≡◌, List, Ok, Err, Option, Result, sym, refl, ap, ◌∙◌}
+-- A posting put into the register is a record posted to the day. Assumes nothing.
+use Rattle.std.proofs.Common.{◌≡◌, ℕ, List, Ok, Err, Option, Result, sym, refl, ap, ◌∙◌}
 use Rattle.refusal.specs.declared.Refusal.{Refusal}
-use Rattle.register.specs.Shapes.{Shape}
 use Rattle.register.specs.Registers.{put_answer, put}
-use Rattle.register.specs.Views.{through, views, view_answer}
+use Rattle.register.specs.Views.{views, view_answer}
 use Rattle.register.proofs.Views.{answer_view, put_view}
-use Rattle.day.specs.Answers.{put_result, taking, placed}
+use Rattle.roster.specs.Rosters.{Lines}
+use Rattle.postings.specs.declared.posting.Posting.{Posting}
+use Rattle.postings.specs.Postings.{said, shape, posting_shape}
+use Rattle.record.specs.Reading.{reading}
+use Rattle.day.specs.Days.{State}
+use Rattle.day.specs.Answers.{put_result, post_answer_by, post_answer, posted_by, posted}
 
--- an element that was read, and the places that it is put into, as the day sees them
-module _ {E S K : Type 0} (view : E → S) (w : Shape S K) (xs : List (Option E)) (e : E) (read : Result S Refusal) (is : read ≡ Ok (view e)) where
-  seen : (r : Result (Option E) Refusal) → put_result r ≡ put_result (view_answer view r)
-  seen (Ok old) = refl
-  seen (Err refusal) = refl
+module _ (roster : Lines) (xs : List (Option Posting)) (p : Posting) (bytes : List ℕ) (read : reading roster bytes ≡ Ok (said p)) where
+  abbrev holding : List (Option Posting) → State
+  holding ys = record { roster = roster; records = views said ys }
 
-  pub answers : (r : Result (Unit {0}) Refusal) (put : Result (Option E) Refusal) → r ≡ put_result put → put ≡ put_answer (through view w) xs e → r ≡ taking w (views view xs) read
-  answers r a is-put h = is-put ∙ ap put_result h ∙ seen (put_answer (through view w) xs e) ∙ ap put_result (answer_view view w xs e) ∙ sym (ap (taking w (views view xs)) is)
+  pub answers : (r : Result (Option Posting) Refusal) → r ≡ put_answer posting_shape xs p → put_result (view_answer said r) ≡ post_answer (holding xs) bytes
+  answers r is =
+      ap (λ a. put_result (view_answer said a)) is ∙ ap put_result (answer_view said shape xs p) ∙ sym (ap (post_answer_by (holding xs)) read)
 
-  pub leaves : (ys : List (Option E)) → ys ≡ put (through view w) xs e → views view ys ≡ placed w (views view xs) read
-  leaves ys h = ap (views view) h ∙ put_view view w xs e ∙ sym (ap (placed w (views view xs)) is)
+  pub leaves : (ys : List (Option Posting)) → ys ≡ put posting_shape xs p → holding ys ≡ posted (holding xs) bytes
+  leaves ys is =
+      ap holding is ∙ ap (λ zs. record { roster = roster; records = zs }) (put_view said shape xs p) ∙ sym (ap (posted_by (holding xs)) read)

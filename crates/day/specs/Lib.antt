@@ -2,6 +2,5 @@ pub mod Accounts
 pub mod Days
 pub mod Bills
 pub mod States
-pub mod NoPays
 pub mod Requests
 pub mod Answers

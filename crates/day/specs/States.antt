@@ -3,15 +3,8 @@ use Rattle.register.specs.Held.{places_in}
 use Rattle.register.specs.Views.{views}
 use Rattle.roster.specs.Rosters.{roster_of}
 use Rattle.postings.specs.Postings.{said}
-use Rattle.signal.specs.Signals.{held as signal_as_held}
-use Rattle.watch.specs.Watches.{held as watch_as_held}
 use Rattle.day.specs.declared.open_day.OpenDay.{OpenDay}
 use Rattle.day.specs.Days.{State}
 
 abbrev pub state_of : OpenDay → State
-state_of d = record {
-  roster = roster_of d.roster;
-  records = views said (places_in d.records);
-  signals = views signal_as_held (places_in d.signals);
-  watches = views watch_as_held (places_in d.watches);
-}
+state_of d = record { roster = roster_of d.roster; records = views said (places_in d.records) }

@@ -8,8 +8,6 @@ ghost use Rattle.postings.specs.Postings.{posting_shape};
 use postings::Posting;
 use register::Register;
 use roster::Roster;
-use signal::Signal;
-use watch::Watch;
 
 mod methods;
 
@@ -18,7 +16,5 @@ mod methods;
 pub struct OpenDay<'a> {
     roster: Roster<'a>,
     records: Register<'a, Posting>,
-    signals: Register<'a, Signal>,
-    watches: Register<'a, Watch>,
     ghost keys: { distinct posting_shape (places_in records) ≡ true },
 }

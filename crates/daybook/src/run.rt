@@ -9,9 +9,7 @@ use day::{Answer, OpenDay};
 use journal::{Line, Lines, located, read_line};
 use outcomes::{Label, Outcome, Reason};
 use roster::{Member, Roster, Site};
-use session::{
-    DayPlaces, Step, make_one, outcome_of, post, post_all, post_signal, question, take_line,
-};
+use session::{RecordPlaces, Step, make_one, outcome_of, post, post_all, question, take_line};
 use std::alloc::Global;
 use std::str::from_utf8;
 use std::{fs, io};
@@ -23,7 +21,7 @@ pub fn before_day<'j>(
     members: &mut Vec<Member<'j>>,
     sites: &mut Vec<Site<'j>>,
     output: &mut Output,
-) -> io::Result<Option<DayPlaces>>
+) -> io::Result<Option<RecordPlaces>>
     ensures { WhenOpened result (opening (lines_of members.new.items sites.new.items) ≡ Ok tt) }
 {
     while let Some((number, line)) = lines.next() {
@@ -83,10 +81,6 @@ fn with_day(
             },
             Err(reason) => Outcome::NotTaken(reason),
         },
-        Line::Signal(signal) => match read_file(rt, path, signal.file) {
-            Ok(bytes) => post_signal(heap, day, signal, bytes.as_slice()),
-            Err(reason) => Outcome::NotTaken(reason),
-        },
         Line::Balance(_) | Line::Account(_) => match question(read) {
             Some(call) => make_one(heap, day, call),
             None => Outcome::NotTaken(Reason::UnknownWord),
@@ -102,15 +96,11 @@ pub fn run(rt: &HostRuntime, path: &str, text: &[u8], output: &mut Output) -> io
     let mut lines = Lines::new(text);
     let mut members = Vec::new(heap);
     let mut sites = Vec::new(heap);
-    let Some(places) = before_day(heap, &mut lines, &mut members, &mut sites, output)? else {
+    let Some(mut places) = before_day(heap, &mut lines, &mut members, &mut sites, output)? else {
         return Ok(());
     };
     let roster = Roster::new(members.as_slice(), sites.as_slice());
-    let DayPlaces {
-        mut records,
-        mut signals,
-    } = places;
-    let mut day = OpenDay::open(roster, records.as_mut_slice(), signals.as_mut_slice());
+    let mut day = OpenDay::open(roster, places.as_mut_slice());
     while let Some((number, line)) = lines.next() {
         with_day(rt, path, output, &mut day, number, line)?;
     }

@@ -1,31 +1,21 @@
 -- The laws over runs. Assumes nothing.
-use Rattle.std.proofs.Common.{◌≡◌, ℕ, zero, suc, ◌<◌, ◌≤◌, Bool, true, false, cond, eqb, ltb, ◌⊎◌, List, [], ◌∷◌, map, length, ℤ, pos, ◌+ℤ◌, neg_ℤ, Some, None, Ok, Err, Option, Result, sym, refl, ap, ◌∙◌, subst, ap₂, arith, le-ltb, lt-ltb, eq-eqb, ne_eqb}
-use mathlib.Core.Path.{fun_ext}
+use Rattle.std.proofs.Common.{◌≡◌, ℕ, zero, suc, ◌<◌, ◌≤◌, Bool, true, false, cond, eqb, ltb, ◌⊎◌, List, [], ◌∷◌, length, ℤ, pos, ◌+ℤ◌, neg_ℤ, Some, None, Ok, Err, Option, Result, sym, refl, ap, ◌∙◌, subst, ap₂, arith, le-ltb, lt-ltb, eq-eqb, ne_eqb}
 use native.Mathlib.Decide.{ℕ_discrete}
 use lib.IntN.{+ℤ_idl, +ℤ_idr}
 use Rattle.std.proofs.lemmas.Bool.Decides.{nat_tests}
 use Rattle.std.proofs.lemmas.Int.{ints}
 use Rattle.std.specs.Option.{option_map}
-use Rattle.units.specs.Exactly.{ExactlyWhen}
 use Rattle.refusal.specs.declared.Refusal.{Refusal}
 use Rattle.refusal.specs.declared.Refusal.TheVariants.{WrongArgument}
-use Rattle.register.specs.Shapes.{Shape, Decides}
 use Rattle.register.specs.Registers.{look, put_answer, value_of, sum_held, sum_over, Each, Space}
 use Rattle.register.specs.Taken.{latest, keys, Admitted, sum_taken}
-use Rattle.register.specs.Views.{through}
-use Rattle.register.proofs.TakenViews.{latest_view, admitted_view}
 use Rattle.register.proofs.Taken.{Holding, admitted, taken, lower_last, lower_none}
 use Rattle.register.proofs.Sums.{interchange, by_key, over_alike}
-use Rattle.roster.specs.Rosters.{Lines, opening}
+use Rattle.roster.specs.Rosters.{Lines}
 use Rattle.roster.proofs.Openings.{few_members}
 use Rattle.postings.specs.declared.posting.Side.{Side}
 use Rattle.postings.specs.declared.posting.Key.{Key}
 use Rattle.postings.specs.Postings.{Terms, award, mileage, capacity, obligation, bill, Said, key_of, shape, signed}
-use Rattle.refusal.specs.Checks.{then}
-use Rattle.signal.specs.Signals.{held_of as signal_held_of, signal_reading, signal_shape}
-use Rattle.signal.proofs.Keys.{signal_decides}
-use Rattle.watch.specs.Watches.{held_of as watch_held_of, watch_reading, watch_shape}
-use Rattle.watch.proofs.Keys.{watch_decides}
 use Rattle.record.specs.Reading.{reading}
 use Rattle.postings.specs.Keys.{decides}
 use Rattle.record.proofs.Readings.{TermsSound, Sound, sound}
@@ -34,79 +24,40 @@ use Rattle.day.specs.declared.sums.Billed.TheVariants.{Member, Everyone}
 use Rattle.day.specs.declared.account.Account.{Account}
 use Rattle.day.specs.declared.account.Account.TheVariants.{Rounding, Neutrality, PassThrough}
 use Rattle.day.specs.declared.calls.Answer.{Answer}
-use Rattle.day.specs.declared.calls.Answer.TheVariants.{Taken, Figure, NoPay, Refused}
+use Rattle.day.specs.declared.calls.Answer.TheVariants.{Taken, Figure, Refused}
 use Rattle.day.specs.Accounts.{account_at}
 use Rattle.day.specs.Bills.{bill_cents, all_cents, cents_for}
 use Rattle.day.specs.Days.{State}
-use Rattle.day.specs.Requests.{Request, post, post_signal, post_watch, balance, account, no_pay}
-use Rattle.day.specs.NoPays.{no_pay_by}
-use Rattle.day.specs.Answers.{no_pay_figures, answer, put_result, taking, taken_answer, figure_answer, cents, balance_of, account_of, account_answer_by}
+use Rattle.day.specs.Requests.{Request, post, balance, account}
+use Rattle.day.specs.Answers.{answer, post_answer_by, put_result, taken_answer, figure_answer, cents, balance_of, account_of, account_answer_by}
 use Rattle.day.proofs.BillKeys.{bill_key, key_index, back, BoundedBill, covered}
 use Rattle.history.specs.Runs.{Opening, Event, Run}
-use Rattle.history.specs.Events.{records_taken, signals_taken, watches_taken, record_held, bills_of, all_bills}
-use Rattle.history.specs.Laws.{TakenExactlyWhen, BillTakenExactlyWhen, SignalTakenExactlyWhen, WatchTakenExactlyWhen, HoldsWhatWasLastTaken, NoPayIsOfWhatWasLastTaken, FiguresOf, BalancesAreBills, sum_below, figure_in, AddsUpToZero, FiguresDependOnHoldingsAlone}
-use Rattle.history.proofs.Keeps.{adds, RecordsKept, Kept, kept}
+use Rattle.history.specs.Events.{records_taken, record_held, bills_of, all_bills}
+use Rattle.history.specs.Laws.{ExactlyWhen, TakenExactlyWhen, BillTakenExactlyWhen, FiguresOf, BalancesAreBills, sum_below, figure_in, AddsUpToZero, FiguresDependOnHoldingsAlone}
+use Rattle.history.proofs.Keeps.{adds, Kept, kept}
 
 refused_taken : {X : Type 0} (refusal : Refusal) → ◌≡◌ {A = Answer} (Refused refusal) Taken → X
 refused_taken refusal e = let z : ◌≡◌ {A = ℕ} 0 1 = cc in absurd (omega arith)
 
 -- ---- taken exactly when
--- what a register takes
-taken_when : {E K : Type 0} (w : Shape E K) → Decides w.same → (n : ℕ) (xs : List (Option E)) (earlier : List E) → Holding w n xs earlier → (e : E) →
-    ExactlyWhen (taken_answer (put_result (put_answer w xs e)) ≡ Taken) (Admitted w n e earlier)
-taken_when {E} w d n xs earlier h e = record {
-  only = λ is. only (put_answer w xs e) refl is;
-  whenever = λ a. ap (λ r. taken_answer (put_result r)) (taken w d n xs earlier h e a).1;
-}
-  where
-    only : (r : Result (Option E) Refusal) → put_answer w xs e ≡ r → taken_answer (put_result r) ≡ Taken → Admitted w n e earlier
-    only (Ok old) is h' = admitted w d n xs earlier h e old is
-    only (Err refusal) is h' = refused_taken refusal h'
-
-answered : {A : Type 0} (a b : Answer) → a ≡ b → ExactlyWhen (b ≡ Taken) A → ExactlyWhen (a ≡ Taken) A
-answered a b e law = record { only = λ is. law.only (sym e ∙ is); whenever = λ h. e ∙ law.whenever h }
+-- what a record that reads well is answered
+post_is : (o : Opening) (xs : List Said) (s : State) → Kept o xs s → (bytes : List ℕ) (said : Said) → reading o.roster bytes ≡ Ok said →
+    answer s (post bytes) ≡ taken_answer (put_result (put_answer shape s.records said))
+post_is o xs s k bytes said read = ap (λ a. taken_answer (post_answer_by s a)) (ap (λ r. reading r bytes) k.roster ∙ read)
 
 pub taken_exactly_when : TakenExactlyWhen
 taken_exactly_when o es s run bytes said read =
     let k = kept o run in
-    answered (answer s (post bytes)) _ (ap (λ a. taken_answer (taking shape s.records a)) (ap (λ r. reading r bytes) k.roster ∙ read))
-    (taken_when shape decides o.places.records s.records (records_taken o.roster es) k.records.holding said)
-
--- a quarter that reads well
-quarter_taken_when : {P H K : Type 0} (held_of : P → H) (w : Shape H K) → Decides w.same → (n : ℕ) (xs : List (Option H)) (earlier : List P) → Holding w n xs (map held_of earlier) →
-    (read : Result P Refusal) (posted : P) → read ≡ Ok posted → ExactlyWhen (taken_answer (taking w xs (then read (λ p. Ok (held_of p)))) ≡ Taken) (Admitted (through held_of w) n posted earlier)
-quarter_taken_when held_of w d n xs earlier h read posted is =
-    let law = answered _ _ (ap (λ a. taken_answer (taking w xs (then a (λ p. Ok (held_of p))))) is) (taken_when w d n xs (map held_of earlier) h (held_of posted)) in
-    let seen = admitted_view held_of w n posted earlier in
-    record { only = λ taken. seen.whenever (law.only taken); whenever = λ a. law.whenever (seen.only a) }
-
-pub signal_taken_exactly_when : SignalTakenExactlyWhen
-signal_taken_exactly_when o es s run arguments bytes posted read =
-    let k = kept o run in
-    quarter_taken_when signal_held_of signal_shape signal_decides o.places.signals s.signals (signals_taken o.roster es) k.signals (signal_reading s.roster arguments bytes) posted
-    (ap (λ r. signal_reading r arguments bytes) k.roster ∙ read)
-
-pub watch_taken_exactly_when : WatchTakenExactlyWhen
-watch_taken_exactly_when o es s run arguments bytes posted read =
-    let k = kept o run in
-    quarter_taken_when watch_held_of watch_shape watch_decides o.places.watches s.watches (watches_taken o.roster es) k.watches (watch_reading s.roster arguments bytes) posted
-    (ap (λ r. watch_reading r arguments bytes) k.roster ∙ read)
-
--- ---- what is held
-pub holds_what_was_last_taken : HoldsWhatWasLastTaken
-holds_what_was_last_taken o es s run =
-    let k = kept o run in
     record {
-      records = k.records.holding.looks;
-      signals = λ key. k.signals.looks key ∙ latest_view signal_held_of signal_shape key (signals_taken o.roster es);
-      watches = λ key. k.watches.looks key ∙ latest_view watch_held_of watch_shape key (watches_taken o.roster es);
+      only = λ e. only k (put_answer shape s.records said) refl (sym (post_is o _ s k bytes said read) ∙ e);
+      whenever = λ a.
+          let t = taken shape decides o.places s.records (records_taken o.roster es) k.holding said a in
+          post_is o _ s k bytes said read ∙ ap (λ r. taken_answer (put_result r)) t.1;
     }
-
-pub no_pay_is_of_what_was_last_taken : NoPayIsOfWhatWasLastTaken
-no_pay_is_of_what_was_last_taken o es s run arguments =
-    let holds = holds_what_was_last_taken o es s run in
-    ap (λ r. no_pay_figures (no_pay_by r (λ k. look shape k s.records) (λ k. look watch_shape k s.watches) arguments)) (kept o run).roster
-    ∙ ap₂ (λ records watches. no_pay_figures (no_pay_by o.roster records watches arguments)) (fun_ext holds.records) (fun_ext holds.watches)
+  where
+    only : Kept o (records_taken o.roster es) s → (r : Result (Option Said) Refusal) → put_answer shape s.records said ≡ r → taken_answer (put_result r) ≡ Taken → Admitted shape o.places said (records_taken o.roster es)
+    only k (Ok old) is e = admitted shape decides o.places s.records (records_taken o.roster es) k.holding said old is
+    only k (Err refusal) is e = refused_taken refusal e
 
 pub bill_taken_exactly_when : BillTakenExactlyWhen
 bill_taken_exactly_when o es s run bytes said read member number side amount is =
@@ -119,24 +70,24 @@ bill_taken_exactly_when o es s run bytes said read member number side amount is 
     no_version : said.version ≡ 0
     no_version = (subst (TermsSound o.roster said.version) is (sound o.roster bytes said read).terms).no_version
 
-    none_earlier : Admitted shape o.places.records said (records_taken o.roster es) → (l : Option Said) → latest shape (key_of said) (records_taken o.roster es) ≡ l → latest shape (key_of said) (records_taken o.roster es) ≡ None
+    none_earlier : Admitted shape o.places said (records_taken o.roster es) → (l : Option Said) → latest shape (key_of said) (records_taken o.roster es) ≡ l → latest shape (key_of said) (records_taken o.roster es) ≡ None
     none_earlier a None e = e
     none_earlier a (Some old) e = let v = no_version in let lt = lower_last shape said old (records_taken o.roster es) a.newest e in absurd (omega arith)
 
 -- ---- balances
-balance_is : (o : Opening) (s : State) → s.roster ≡ o.roster → (m : ℕ) → m < length o.roster.members → answer s (balance m) ≡ Figure (cents (balance_of s m))
-balance_is o s roster m lt =
-    ap (λ r. figure_answer (cond (ltb m (length r.members)) (Ok (cents (balance_of s m))) (Err (WrongArgument 0)))) roster
+balance_is : (o : Opening) (xs : List Said) (s : State) → Kept o xs s → (m : ℕ) → m < length o.roster.members → answer s (balance m) ≡ Figure (cents (balance_of s m))
+balance_is o xs s k m lt =
+    ap (λ r. figure_answer (cond (ltb m (length r.members)) (Ok (cents (balance_of s m))) (Err (WrongArgument 0)))) k.roster
     ∙ ap (λ b. figure_answer (cond b (Ok (cents (balance_of s m))) (Err (WrongArgument 0)))) (lt-ltb m (length o.roster.members) lt)
 
 pub balances_are_bills : BalancesAreBills
 balances_are_bills o es s run =
     let k = kept o run in
     record {
-      balances = λ m lt. balance_is o s k.roster m lt ∙ ap (λ z. Figure (cents z)) (k.records.sums (Member m));
+      balances = λ m lt. balance_is o (records_taken o.roster es) s k m lt ∙ ap (λ z. Figure (cents z)) (k.sums (Member m));
       rounding = refl;
       neutrality = refl;
-      pass_through = ap (λ z. Figure (cents (neg_ℤ z))) (k.records.sums Everyone);
+      pass_through = ap (λ z. Figure (cents (neg_ℤ z))) (k.sums Everyone);
     }
 
 -- ---- the sum is zero
@@ -188,7 +139,7 @@ adds_up_to_zero o es s run =
     let k = kept o run in
     let n = length o.roster.members in
     let members : sum_below (λ m. figure_in (answer s (balance m))) n ≡ sum_held (adds Everyone) s.records =
-    sum_alike (λ m. figure_in (answer s (balance m))) (balance_of s) n (λ m lt. ap figure_in (balance_is o s k.roster m lt)) ∙ members_all o.roster s.records k.records.sounds in
+    sum_alike (λ m. figure_in (answer s (balance m))) (balance_of s) n (λ m lt. ap figure_in (balance_is o _ s k m lt)) ∙ members_all o.roster s.records k.sounds in
     ap (λ z. z +ℤ sum_below (λ i. figure_in (answer s (account i))) 3) members ∙ no_sum (sum_held (adds Everyone) s.records)
 
 -- ---- figures depend on holdings alone
@@ -208,34 +159,34 @@ each_so P Q f (None ∷ xs) h = each_so P Q f xs h
 each_so P Q f (Some x ∷ xs) h = (f x h.0, each_so P Q f xs h.1)
 
 -- the sum over what is held is that of the look-ups over the keys of bills
-over_keys : (o : Opening) (taken : List Said) (xs : List (Option Said)) → opening o.roster ≡ Ok tt → RecordsKept o taken xs → (billed : Billed) → sum_held (adds billed) xs ≡ sum_over shape (adds billed) bill_key 767232 xs
-over_keys o taken xs asked k billed =
-    by_key shape decides (adds billed) bill_key 767232 xs
-    (record { index = key_index; back = back; covers = each_so (Sound o.roster) _ (λ x is. covered billed x (bounded_terms o.roster x (few_members o.roster asked) is)) xs k.sounds })
+over_keys : (o : Opening) (xs : List Said) (s : State) → Kept o xs s → (billed : Billed) → sum_held (adds billed) s.records ≡ sum_over shape (adds billed) bill_key 767232 s.records
+over_keys o xs s k billed =
+    by_key shape decides (adds billed) bill_key 767232 s.records
+    (record { index = key_index; back = back; covers = each_so (Sound o.roster) _ (λ x is. covered billed x (bounded_terms o.roster x (few_members o.roster k.asked) is)) s.records k.sounds })
     k.holding.apart
 
 value_terms : (f : Terms → ℤ) (o : Option Said) → value_of (λ said. f said.terms) o ≡ value_of f (option_map (λ said. said.terms) o)
 value_terms f None = refl
 value_terms f (Some x) = refl
 
-same_sums : (o p : Opening) (taken other : List Said) (xs ys : List (Option Said)) → opening o.roster ≡ Ok tt → opening p.roster ≡ Ok tt → RecordsKept o taken xs → RecordsKept p other ys →
-    ((k : Key) → option_map (λ said. said.terms) (latest shape k taken) ≡ option_map (λ said. said.terms) (latest shape k other)) → (billed : Billed) → sum_held (adds billed) xs ≡ sum_held (adds billed) ys
-same_sums o p taken other xs ys asked asked' j k same billed =
-    over_keys o taken xs asked j billed
-    ∙ over_alike shape (adds billed) bill_key xs ys
+same_sums : (o p : Opening) (xs ys : List Said) (s t : State) → Kept o xs s → Kept p ys t → ((k : Key) → option_map (λ said. said.terms) (latest shape k xs) ≡ option_map (λ said. said.terms) (latest shape k ys)) →
+    (billed : Billed) → sum_held (adds billed) s.records ≡ sum_held (adds billed) t.records
+same_sums o p xs ys s t j k same billed =
+    over_keys o xs s j billed
+    ∙ over_alike shape (adds billed) bill_key s.records t.records
     (λ key.
-    value_terms (cents_for billed) (look shape key xs)
+    value_terms (cents_for billed) (look shape key s.records)
     ∙ ap (λ l. value_of (cents_for billed) (option_map (λ said. said.terms) l)) (j.holding.looks key)
     ∙ ap (value_of (cents_for billed)) (same key)
-    ∙ sym (value_terms (cents_for billed) (look shape key ys) ∙ ap (λ l. value_of (cents_for billed) (option_map (λ said. said.terms) l)) (k.holding.looks key)))
+    ∙ sym (value_terms (cents_for billed) (look shape key t.records) ∙ ap (λ l. value_of (cents_for billed) (option_map (λ said. said.terms) l)) (k.holding.looks key)))
     767232
-    ∙ sym (over_keys p other ys asked' k billed)
+    ∙ sym (over_keys p ys t k billed)
 
 pub figures_depend_on_holdings_alone : FiguresDependOnHoldingsAlone
 figures_depend_on_holdings_alone o p es fs s t run run' rosters same =
     let j = kept o run in
     let k = kept p run' in
-    let sums = same_sums o p (records_taken o.roster es) (records_taken p.roster fs) s.records t.records j.asked k.asked j.records k.records same in
+    let sums = same_sums o p (records_taken o.roster es) (records_taken p.roster fs) s t j k same in
     let roster : s.roster ≡ t.roster = j.roster ∙ rosters ∙ sym k.roster in (
       (λ m. ap₂ (λ r z. figure_answer (cond (ltb m (length r.members)) (Ok (cents z)) (Err (WrongArgument 0)))) roster (sums (Member m))),
       (λ n. ap figure_answer (by_account (account_at n) (sums Everyone))),

@@ -1,30 +1,24 @@
 -- The laws that hold after every event of every run. Assumes nothing.
 use Rattle.std.specs.Prelude.{◌≡◌, ℕ, zero, suc, ◌<◌, List, [], ◌∷◌, length, ℤ, pos, ◌+ℤ◌, neg_ℤ, None, Ok}
-use Rattle.std.specs.Option.{option_map}
-use Rattle.units.specs.Exactly.{ExactlyWhen}
-use Rattle.register.specs.Registers.{look}
 use Rattle.register.specs.Taken.{latest, keys, AllLower, Admitted}
 use Rattle.postings.specs.declared.posting.Side.{Side}
 use Rattle.postings.specs.declared.posting.Key.{Key}
 use Rattle.postings.specs.Postings.{Said, bill, key_of, shape}
-use Rattle.signal.specs.declared.signal.SignalArguments.{SignalArguments}
-use Rattle.signal.specs.declared.signal.SignalKey.{SignalKey}
-use Rattle.signal.specs.Signals.{Posted as SignalPosted, held_of as signal_held_of, signal_reading, signal_shape, posted_shape as signal_posted_shape}
-use Rattle.watch.specs.declared.watch.WatchArguments.{WatchArguments}
-use Rattle.watch.specs.declared.watch.WatchKey.{WatchKey}
-use Rattle.watch.specs.Watches.{Posted as WatchPosted, held_of as watch_held_of, watch_reading, watch_shape, posted_shape as watch_posted_shape}
 use Rattle.record.specs.Reading.{reading}
 use Rattle.day.specs.declared.account.Account.TheVariants.{Rounding, Neutrality, PassThrough}
 use Rattle.day.specs.declared.calls.Answer.{Answer}
-use Rattle.day.specs.declared.calls.Answer.TheVariants.{Taken, Figure, NoPay, Refused}
+use Rattle.day.specs.declared.calls.Answer.TheVariants.{Taken, Figure, Refused}
 use Rattle.day.specs.Accounts.{account_number}
 use Rattle.day.specs.Days.{State}
-use Rattle.day.specs.Requests.{Request, post, post_signal, post_watch, balance, account, no_pay}
-use Rattle.day.specs.declared.question.NoPayArguments.{NoPayArguments}
-use Rattle.day.specs.NoPays.{no_pay_by}
-use Rattle.day.specs.Answers.{answer, cents, no_pay_figures}
+use Rattle.day.specs.Requests.{Request, post, balance, account}
+use Rattle.day.specs.Answers.{answer, cents}
 use Rattle.history.specs.Runs.{Opening, Event, Run}
-use Rattle.history.specs.Events.{records_taken, signals_taken, watches_taken, record_held, bills_of, all_bills}
+use Rattle.history.specs.Events.{records_taken, record_held, bills_of, all_bills}
+
+-- both or neither
+pub record ExactlyWhen (A B : Type 0) : Type 0 where
+  pub only : A → B
+  pub whenever : B → A
 
 -- A record that reads well is taken exactly when every earlier one taken under its key has a lower version and, if there is none, fewer keys than
 -- places were taken.
@@ -32,7 +26,7 @@ abbrev pub TakenExactlyWhen : Type 0
 TakenExactlyWhen =
     (o : Opening) (es : List Event) (s : State) → Run o es s →
     (bytes : List ℕ) (said : Said) → reading o.roster bytes ≡ Ok said →
-    ExactlyWhen (answer s (post bytes) ≡ Taken) (Admitted shape o.places.records said (records_taken o.roster es))
+    ExactlyWhen (answer s (post bytes) ≡ Taken) (Admitted shape o.places said (records_taken o.roster es))
 
 -- A bill is taken exactly when none was taken under its key and fewer keys than places were taken: it is never replaced.
 abbrev pub BillTakenExactlyWhen : Type 0
@@ -41,42 +35,7 @@ BillTakenExactlyWhen =
     (bytes : List ℕ) (said : Said) → reading o.roster bytes ≡ Ok said →
     (member number : ℕ) (side : Side) (amount : ℤ) → said.terms ≡ bill member number side amount →
     ExactlyWhen (answer s (post bytes) ≡ Taken)
-    ((latest shape (key_of said) (records_taken o.roster es) ≡ None) × (keys shape (records_taken o.roster es) < o.places.records))
-
--- A signal quarter that reads well is taken exactly when every earlier one taken under its key has a lower version and, if there is none, fewer keys
--- than places were taken.
-abbrev pub SignalTakenExactlyWhen : Type 0
-SignalTakenExactlyWhen =
-    (o : Opening) (es : List Event) (s : State) → Run o es s →
-    (arguments : SignalArguments) (bytes : List ℕ) (posted : SignalPosted) → signal_reading o.roster arguments bytes ≡ Ok posted →
-    ExactlyWhen (answer s (post_signal arguments bytes) ≡ Taken) (Admitted signal_posted_shape o.places.signals posted (signals_taken o.roster es))
-
--- A watch quarter that reads well is taken exactly when every earlier one taken under its key has a lower version and, if there is none, fewer keys
--- than places were taken.
-abbrev pub WatchTakenExactlyWhen : Type 0
-WatchTakenExactlyWhen =
-    (o : Opening) (es : List Event) (s : State) → Run o es s →
-    (arguments : WatchArguments) (bytes : List ℕ) (posted : WatchPosted) → watch_reading o.roster arguments bytes ≡ Ok posted →
-    ExactlyWhen (answer s (post_watch arguments bytes) ≡ Taken) (Admitted watch_posted_shape o.places.watches posted (watches_taken o.roster es))
-
--- what is held under each key, by the history alone
-pub record Holds (o : Opening) (es : List Event) (s : State) : Type 0 where
-  pub records : (k : Key) → look shape k s.records ≡ latest shape k (records_taken o.roster es)
-  pub signals : (k : SignalKey) → look signal_shape k s.signals ≡ option_map signal_held_of (latest signal_posted_shape k (signals_taken o.roster es))
-  pub watches : (k : WatchKey) → look watch_shape k s.watches ≡ option_map watch_held_of (latest watch_posted_shape k (watches_taken o.roster es))
-
--- Under each key the day holds the record last taken, what the samples of the signal quarter last taken come to, and how the site was available in the
--- minutes of the watch quarter last taken.
-abbrev pub HoldsWhatWasLastTaken : Type 0
-HoldsWhatWasLastTaken = (o : Opening) (es : List Event) (s : State) → Run o es s → Holds o es s
-
--- The no-pay question answers by the award and the minutes that were last taken, and refuses exactly where an argument is out of range or one of them was
--- never taken.
-abbrev pub NoPayIsOfWhatWasLastTaken : Type 0
-NoPayIsOfWhatWasLastTaken =
-    (o : Opening) (es : List Event) (s : State) → Run o es s → (arguments : NoPayArguments) →
-    answer s (no_pay arguments)
-    ≡ no_pay_figures (no_pay_by o.roster (λ k. latest shape k (records_taken o.roster es)) (λ k. option_map watch_held_of (latest watch_posted_shape k (watches_taken o.roster es))) arguments)
+    ((latest shape (key_of said) (records_taken o.roster es) ≡ None) × (keys shape (records_taken o.roster es) < o.places))
 
 -- what the questions answer, by the history alone
 pub record FiguresOf (o : Opening) (es : List Event) (s : State) : Type 0 where
@@ -98,7 +57,6 @@ sum_below f (suc n) = sum_below f n +ℤ f n
 abbrev pub figure_in : Answer → ℤ
 figure_in Taken = pos 0
 figure_in (Figure c) = c.0
-figure_in (NoPay award self_provision cause) = pos 0
 figure_in (Refused refusal) = pos 0
 
 -- Balances and accounts add up to zero.

@@ -1,15 +1,15 @@
 -- Runs: an opened day and the calls made of it, with what it answered. Assumes nothing.
-use Rattle.std.specs.Prelude.{◌≡◌, List, [], ◌∷◌, Ok}
+use Rattle.std.specs.Prelude.{◌≡◌, ℕ, List, [], ◌∷◌, Ok}
 use Rattle.roster.specs.Rosters.{Lines, opening}
 use Rattle.day.specs.declared.calls.Answer.{Answer}
-use Rattle.day.specs.Days.{State, Places, fresh}
+use Rattle.day.specs.Days.{State, fresh}
 use Rattle.day.specs.Requests.{Request}
 use Rattle.day.specs.Answers.{answer, after}
 
 -- what a day was opened with
 pub record Opening : Type 0 where
   pub roster : Lines
-  pub places : Places
+  pub places : ℕ
 
 -- a call with its answer
 pub record Event : Type 0 where

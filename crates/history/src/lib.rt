@@ -4,7 +4,7 @@ ghost use Rattle.std.specs.Prelude.{◌≡◌, List, map, IfOk, MatchResult};
 ghost use Rattle.day.specs.Requests.{request_of};
 ghost use Rattle.day.specs.States.{state_of};
 ghost use Rattle.history.specs.Runs.{Opening, Event, Run, play, events, with_events};
-ghost use Rattle.history.specs.Laws.{TakenExactlyWhen, BillTakenExactlyWhen, SignalTakenExactlyWhen, WatchTakenExactlyWhen, HoldsWhatWasLastTaken, NoPayIsOfWhatWasLastTaken, BalancesAreBills, AddsUpToZero, FiguresDependOnHoldingsAlone};
+ghost use Rattle.history.specs.Laws.{TakenExactlyWhen, BillTakenExactlyWhen, BalancesAreBills, AddsUpToZero, FiguresDependOnHoldingsAlone};
 
 use day::{Answer, Call, OpenDay, make};
 use std::alloc::{AllocError, Global};
@@ -21,10 +21,6 @@ pub fn replay(
     ensures run { IfOk result (λ v. (o : Opening) (es : List Event) → Run o es (state_of day.old) → Run o (with_events es (events (state_of day.old) (map request_of calls.now))) (state_of day.new)) }
     ensures taken { TakenExactlyWhen }
     ensures bills { BillTakenExactlyWhen }
-    ensures signals { SignalTakenExactlyWhen }
-    ensures watches { WatchTakenExactlyWhen }
-    ensures held { HoldsWhatWasLastTaken }
-    ensures no_pay { NoPayIsOfWhatWasLastTaken }
     ensures balances { BalancesAreBills }
     ensures zero { AddsUpToZero }
     ensures holdings { FiguresDependOnHoldingsAlone }

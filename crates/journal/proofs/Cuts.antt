@@ -1,5 +1,5 @@
 -- A text cut at the first byte of a kind. Assumes nothing.
-use Rattle.std.proofs.Common.{◌≡◌, ℕ, suc, ◌+◌, ◌-◌, ◌<◌, ◌≤◌, Bool, true, false, cond, List, [], ◌∷◌, length, get_or, take, drop, Ok, sym, refl, ap, ◌∙◌, arith}
+use Rattle.std.proofs.Common.{◌≡◌, ℕ, suc, ◌+◌, ◌-◌, ◌<◌, ◌≤◌, Bool, true, false, cond, List, [], ◌∷◌, length, get_or, take, drop, Some, sym, refl, ap, ◌∙◌, arith}
 use Rattle.std.proofs.lemmas.List.{drop_more, drop_all, take_rest}
 use Rattle.std.proofs.lemmas.Bool.{cond-true, cond-false}
 use Rattle.journal.specs.Bytes.{until, from}
@@ -63,7 +63,7 @@ pub pass_end : (bs : List ℕ) → length bs ≡ 0 → bs ≡ past_separators bs
 pass_end [] h = refl
 pass_end (b ∷ bs) h = absurd (omega arith)
 
-pub after_one : (bs : List ℕ) → (length (take (length bs - 1) (drop 1 bs)) ≡ 0 → ⊥) → text_after bs ≡ Ok (take (length bs - 1) (drop 1 bs))
+pub after_one : (bs : List ℕ) → (length (take (length bs - 1) (drop 1 bs)) ≡ 0 → ⊥) → Some (take (length bs - 1) (drop 1 bs)) ≡ text_after bs
 after_one [] h = absurd (h refl)
 after_one (b ∷ []) h = absurd (h refl)
-after_one (b ∷ c ∷ bs) h = ap Ok (sym (take_rest (b ∷ c ∷ bs) 1))
+after_one (b ∷ c ∷ bs) h = ap Some (take_rest (b ∷ c ∷ bs) 1)

@@ -1,5 +1,5 @@
 -- Words of a line, and numbers in digits. Assumes nothing.
-use Rattle.std.specs.Prelude.{ℕ, zero, suc, ◌+◌, ◌-◌, ◌*◌, ◌^◌, Bool, true, false, cond, ◌&&◌, ◌||◌, List, [], ◌∷◌, Some, None, Option, ◌==◌, nat_le, nat_lt}
+use Rattle.std.specs.Prelude.{ℕ, suc, ◌+◌, ◌-◌, ◌*◌, ◌^◌, Bool, true, false, cond, ◌&&◌, ◌||◌, List, [], ◌∷◌, Some, None, Option, ◌==◌, nat_le, nat_lt}
 use Rattle.journal.specs.Bytes.{until, from}
 
 -- a space or a tab
@@ -18,15 +18,6 @@ word_of bs = until is_separator (past_separators bs)
 abbrev pub after_word : List ℕ → List ℕ
 after_word bs = from is_separator (past_separators bs)
 
--- what follows so many words
-abbrev pub after_words : ℕ → List ℕ → List ℕ
-after_words zero bs = bs
-after_words (suc n) bs = after_words n (after_word bs)
-
--- the word at a place, counted from 0
-abbrev pub word_at : ℕ → List ℕ → List ℕ
-word_at n bs = word_of (after_words n bs)
-
 abbrev pub is_digit : ℕ → Bool
 is_digit b = nat_le 48 b && nat_le b 57
 
@@ -44,10 +35,6 @@ below_limit (Some n) = cond (nat_lt n (2 ^ 64)) (Some n) None
 abbrev pub number_of : List ℕ → Option ℕ
 number_of [] = None
 number_of (b ∷ bs) = below_limit (number_after 0 (b ∷ bs))
-
--- the number that the word at a place writes
-abbrev pub number_at : ℕ → List ℕ → Option ℕ
-number_at n bs = number_of (word_at n bs)
 
 -- a digit behind a number, where what they write is below 2^64
 abbrev pub with_digit : ℕ → ℕ → Option ℕ

@@ -8,6 +8,6 @@ pub mod words;
 
 pub use lines::{records, split_line};
 pub use paths::located;
-pub use read::{Line, NoPayLine, SignalLine, WatchLine, read_line};
+pub use read::{Line, read_line};
 pub use remaining::Lines;
 pub use words::split_word;

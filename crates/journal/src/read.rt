@@ -1,11 +1,12 @@
 //! A line of a journal read into what it asks for.
 
 ghost use Rattle.std.specs.Prelude.{◌≡◌, Ok, Err, MatchResult};
+ghost use Rattle.std.specs.Option.{option_map};
 ghost use Rattle.std.specs.Str.{bytes_eq};
-ghost use Rattle.journal.specs.Reading.{request, request_of, known_word, text_after, only_word, places_of, by_reading, by_word, by_words};
-ghost use Rattle.journal.specs.declared.read.Word.TheVariants.{Site as a_site, Signal as a_signal, Watch as a_watch, NoPay as a_no_pay};
+ghost use Rattle.journal.specs.Reading.{request, request_of, known_word, text_after, only_word, places_of, by_word};
+ghost use Rattle.journal.specs.declared.read.Word.TheVariants.{Site as a_site};
 
-use crate::words::{number, split_number, split_word};
+use crate::words::{number, split_word};
 use outcomes::Reason;
 
 // The numbers of places of the three registers.
@@ -14,36 +15,6 @@ pub struct Places {
     pub records: usize,
     pub signals: usize,
     pub watches: usize,
-}
-
-// A quarter of a site's signal, which a file holds.
-#[derive(Clone, Copy)]
-pub struct SignalLine<'a> {
-    pub site: Option<usize>,
-    pub direction: &'a [u8],
-    pub hour: Option<usize>,
-    pub quarter: Option<usize>,
-    pub version: Option<usize>,
-    pub file: &'a [u8],
-}
-
-// A quarter of a site's watch, which a file holds.
-#[derive(Clone, Copy)]
-pub struct WatchLine<'a> {
-    pub site: Option<usize>,
-    pub hour: Option<usize>,
-    pub quarter: Option<usize>,
-    pub version: Option<usize>,
-    pub file: &'a [u8],
-}
-
-// The question what is not paid of a site's quarter, and why.
-#[derive(Clone, Copy)]
-pub struct NoPayLine<'a> {
-    pub site: Option<usize>,
-    pub direction: &'a [u8],
-    pub hour: Option<usize>,
-    pub quarter: Option<usize>,
 }
 
 // A number is `None` where the word is no number or too large for any.
@@ -56,9 +27,6 @@ pub enum Line<'a> {
     Open(Places),
     Record(&'a [u8]),
     Records(&'a [u8]),
-    Signal(SignalLine<'a>),
-    Watch(WatchLine<'a>),
-    NoPay(NoPayLine<'a>),
     Balance(Option<usize>),
     Account(Option<usize>),
     Wrong(Reason),
@@ -72,9 +40,6 @@ enum Word {
     Open,
     Record,
     Records,
-    Signal,
-    Watch,
-    NoPay,
     Balance,
     Account,
     Unknown,
@@ -101,12 +66,6 @@ fn known(word: &[u8]) -> Word
         Word::Record
     } else if is(word, b"records") {
         Word::Records
-    } else if is(word, b"signal") {
-        Word::Signal
-    } else if is(word, b"watch") {
-        Word::Watch
-    } else if is(word, b"nopay") {
-        Word::NoPay
     } else if is(word, b"balance") {
         Word::Balance
     } else if is(word, b"account") {
@@ -116,13 +75,13 @@ fn known(word: &[u8]) -> Word
     }
 }
 
-// What stands after one separator.
-fn text_after(rest: &[u8]) -> Result<&[u8], Reason>
-    ensures { MatchResult result (λ t. text_after rest.now ≡ Ok t.now) (λ e. text_after rest.now ≡ Err e) }
+// What stands after one separator, if anything does.
+fn text_after(rest: &[u8]) -> Option<&[u8]>
+    ensures { option_map (λ x. x.now) result ≡ text_after rest.now }
 {
     match rest {
-        [_, text @ ..] if !text.is_empty() => Ok(text),
-        _ => Err(Reason::MissingWords),
+        [_, text @ ..] if !text.is_empty() => Some(text),
+        _ => None,
     }
 }
 
@@ -142,98 +101,29 @@ fn only_word(rest: &[u8]) -> Result<&[u8], Reason>
     }
 }
 
-fn read_site(rest: &[u8]) -> Result<Line<'_>, Reason>
-    ensures { by_reading request_of result ≡ by_word a_site rest.now }
+fn read_site(rest: &[u8]) -> Line<'_>
+    ensures { request_of result ≡ by_word a_site rest.now }
 {
-    let (member, rest) = split_number(rest);
-    Ok(Line::Site(member, text_after(rest)?))
+    let (member, rest) = split_word(rest);
+    match text_after(rest) {
+        Some(name) => Line::Site(number(member), name),
+        None => Line::Wrong(Reason::MissingWords),
+    }
 }
 
 fn read_open(rest: &[u8]) -> Result<Places, Reason>
     ensures { result ≡ places_of rest.now }
 {
-    let (records, rest) = split_number(rest);
-    let (signals, rest) = split_number(rest);
+    let (records, rest) = split_word(rest);
+    let (signals, rest) = split_word(rest);
     let watches = only_word(rest)?;
-    match (records, signals, number(watches)) {
+    match (number(records), number(signals), number(watches)) {
         (Some(records), Some(signals), Some(watches)) => Ok(Places {
             records,
             signals,
             watches,
         }),
         _ => Err(Reason::NotANumber),
-    }
-}
-
-fn read_signal(rest: &[u8]) -> Result<Line<'_>, Reason>
-    ensures { by_reading request_of result ≡ by_word a_signal rest.now }
-{
-    let (site, rest) = split_number(rest);
-    let (direction, rest) = split_word(rest);
-    let (hour, rest) = split_number(rest);
-    let (quarter, rest) = split_number(rest);
-    let (version, rest) = split_number(rest);
-    let file = only_word(rest)?;
-    Ok(Line::Signal(SignalLine {
-        site,
-        direction,
-        hour,
-        quarter,
-        version,
-        file,
-    }))
-}
-
-fn read_watch(rest: &[u8]) -> Result<Line<'_>, Reason>
-    ensures { by_reading request_of result ≡ by_word a_watch rest.now }
-{
-    let (site, rest) = split_number(rest);
-    let (hour, rest) = split_number(rest);
-    let (quarter, rest) = split_number(rest);
-    let (version, rest) = split_number(rest);
-    let file = only_word(rest)?;
-    Ok(Line::Watch(WatchLine {
-        site,
-        hour,
-        quarter,
-        version,
-        file,
-    }))
-}
-
-fn read_no_pay(rest: &[u8]) -> Result<Line<'_>, Reason>
-    ensures { by_reading request_of result ≡ by_word a_no_pay rest.now }
-{
-    let (site, rest) = split_number(rest);
-    let (direction, rest) = split_word(rest);
-    let (hour, rest) = split_number(rest);
-    let quarter = number(only_word(rest)?);
-    Ok(Line::NoPay(NoPayLine {
-        site,
-        direction,
-        hour,
-        quarter,
-    }))
-}
-
-// What the words of a line ask for, or what is wrong with them.
-fn read_words(line: &[u8]) -> Result<Line<'_>, Reason>
-    ensures { by_reading request_of result ≡ by_words line.now }
-{
-    let (word, rest) = split_word(line);
-    match known(word) {
-        Word::Empty => Ok(Line::Passed),
-        Word::Member => Ok(Line::Member(text_after(rest)?)),
-        Word::Site => read_site(rest),
-        Word::Open => Ok(Line::Open(read_open(rest)?)),
-        Word::Record => Ok(Line::Record(text_after(rest)?)),
-        Word::Records => Ok(Line::Records(only_word(rest)?)),
-        Word::Signal => read_signal(rest),
-        Word::Watch => read_watch(rest),
-        Word::NoPay => read_no_pay(rest),
-        Word::Balance => Ok(Line::Balance(number(only_word(rest)?))),
-        Word::Account => Ok(Line::Account(number(only_word(rest)?))),
-        Word::Unknown => Err(Reason::UnknownWord),
     }
 }
 
@@ -244,8 +134,34 @@ pub fn read_line(line: &[u8]) -> Line<'_>
     if let [b'#', ..] = line {
         return Line::Passed;
     }
-    match read_words(line) {
-        Ok(line) => line,
-        Err(reason) => Line::Wrong(reason),
+    let (word, rest) = split_word(line);
+    match known(word) {
+        Word::Empty => Line::Passed,
+        Word::Member => match text_after(rest) {
+            Some(name) => Line::Member(name),
+            None => Line::Wrong(Reason::MissingWords),
+        },
+        Word::Site => read_site(rest),
+        Word::Open => match read_open(rest) {
+            Ok(places) => Line::Open(places),
+            Err(reason) => Line::Wrong(reason),
+        },
+        Word::Record => match text_after(rest) {
+            Some(text) => Line::Record(text),
+            None => Line::Wrong(Reason::MissingWords),
+        },
+        Word::Records => match only_word(rest) {
+            Ok(file) => Line::Records(file),
+            Err(reason) => Line::Wrong(reason),
+        },
+        Word::Balance => match only_word(rest) {
+            Ok(member) => Line::Balance(number(member)),
+            Err(reason) => Line::Wrong(reason),
+        },
+        Word::Account => match only_word(rest) {
+            Ok(account) => Line::Account(number(account)),
+            Err(reason) => Line::Wrong(reason),
+        },
+        Word::Unknown => Line::Wrong(Reason::UnknownWord),
     }
 }

@@ -68,12 +68,3 @@ pub fn number(word: &[u8]) -> Option<usize>
     }
     Some(n)
 }
-
-// The number that the first word writes, and what follows the word.
-pub fn split_number(text: &[u8]) -> (Option<usize>, &[u8])
-    ensures value { result.0 ≡ number_of (word_of text.now) }
-    ensures rest { result.1.now ≡ after_word text.now }
-{
-    let (word, rest) = split_word(text);
-    (number(word), rest)
-}

@@ -3,14 +3,13 @@ use Rattle.std.specs.Prelude.{ℕ, ◌+◌, ◌-◌, ◌^◌, min, List, [], ◌
 use Rattle.std.specs.Fmt.{signed_decimal}
 use Rattle.refusal.specs.Refusals.{number_of, layer_of, place_of}
 use Rattle.refusal.specs.declared.Refusal.{Refusal}
-use Rattle.refusal.specs.declared.Refusal.TheVariants.{MemberCount, SiteCount, SiteWithoutMember, BadName, RecordLength, UnknownKind, UnknownDirection, WrongHour, WrongVersion, MalformedName, UnknownName, WrongNumber, VersionNotHigher, RegisterFull, WrongPostingArgument, SignalLength, WrongSample, WatchLength, WrongMinute, WrongArgument, NotPosted}
+use Rattle.refusal.specs.declared.Refusal.TheVariants.{MemberCount, SiteCount, SiteWithoutMember, BadName, RecordLength, UnknownKind, UnknownDirection, WrongHour, WrongVersion, MalformedName, UnknownName, WrongNumber, VersionNotHigher, RegisterFull, WrongArgument}
 use Rattle.refusal.specs.declared.Layer.{Layer}
 use Rattle.refusal.specs.declared.Layer.TheVariants.{Record as RecordLayer, Register as RegisterLayer, Day as DayLayer}
-use Rattle.nopay.specs.NoPay.{cause_number}
 use Rattle.outcomes.specs.declared.outcome.Reason.{Reason}
 use Rattle.outcomes.specs.declared.outcome.Reason.TheVariants.{NoDay, DayIsOpen, UnknownWord, MissingWords, TooManyWords, NotANumber, UnreadableFile, NoMemory}
 use Rattle.outcomes.specs.declared.outcome.Outcome.{Outcome}
-use Rattle.outcomes.specs.declared.outcome.Outcome.TheVariants.{Taken, Figure, NoPay, Refused, NotTaken}
+use Rattle.outcomes.specs.declared.outcome.Outcome.TheVariants.{Taken, Figure, Refused, NotTaken}
 use Rattle.outcomes.specs.declared.outcome.Label.{Label}
 use Rattle.outcomes.specs.declared.outcome.Label.TheVariants.{Line, Record}
 use Rattle.outcomes.specs.declared.outcome.Tally.{Tally}
@@ -46,18 +45,11 @@ explanation UnknownName = codes "the name is not on the roster"
 explanation (WrongNumber i) = codes "the number has not six digits or is past its limit"
 explanation (VersionNotHigher d) = codes "a version as high is held, or the bill is"
 explanation RegisterFull = codes "every place is taken"
-explanation (WrongPostingArgument i) = codes "the argument of the posting is out of range"
-explanation SignalLength = codes "a signal quarter has 1800 bytes"
-explanation (WrongSample i) = codes "the sample is out of limits"
-explanation WatchLength = codes "a watch quarter has 420 bytes"
-explanation (WrongMinute i) = codes "the minute is bad"
 explanation (WrongArgument i) = codes "the argument is out of range"
-explanation NotPosted = codes "the award or the watch quarter is not posted"
 
 abbrev pub outcome_text : Outcome → List ℕ
 outcome_text Taken = codes "taken"
 outcome_text (Figure cents) = signed_decimal cents.0
-outcome_text (NoPay award self_provision cause) = signed_decimal award.0 ++ (codes " " ++ (signed_decimal self_provision.0 ++ (codes " " ++ decimal (cause_number cause))))
 outcome_text (Refused refusal) =
     codes "refused " ++ (decimal (number_of refusal) ++ (codes " " ++ (layer_text (layer_of refusal) ++ (codes " " ++ (decimal (place_of refusal) ++ (codes " (" ++ (explanation refusal ++ codes ")")))))))
 outcome_text (NotTaken reason) = codes "not taken (" ++ (reason_text reason ++ codes ")")
@@ -76,7 +68,6 @@ one_more n = min (n + 1) (2 ^ 64 - 1)
 abbrev pub counted : Tally → Outcome → Tally
 counted t Taken = record { taken = one_more t.taken; refused = t.refused; answered = t.answered; not_taken = t.not_taken }
 counted t (Figure cents) = record { taken = t.taken; refused = t.refused; answered = one_more t.answered; not_taken = t.not_taken }
-counted t (NoPay award self_provision cause) = record { taken = t.taken; refused = t.refused; answered = one_more t.answered; not_taken = t.not_taken }
 counted t (Refused refusal) = record { taken = t.taken; refused = one_more t.refused; answered = t.answered; not_taken = t.not_taken }
 counted t (NotTaken reason) = record { taken = t.taken; refused = t.refused; answered = t.answered; not_taken = one_more t.not_taken }
 

@@ -3,11 +3,10 @@
 ghost use Rattle.std.specs.Prelude.{◌≡◌, IfOk, Some};
 ghost use Rattle.outcomes.specs.Outcomes.{reason_text, layer_text, explanation, outcome_text, label_text, report_line, counted, tally_text};
 
-use nopay::Cause;
 use refusal::{Layer, Refusal};
 use std::alloc::{AllocError, Global};
 use std::fmt;
-use units::{Cents, Kw};
+use units::Cents;
 
 // Why a line is not taken.
 #[derive(Clone, Copy)]
@@ -51,8 +50,6 @@ impl fmt::Display for Reason {
 pub enum Outcome {
     Taken,
     Figure(Cents),
-    // What is not paid of the award and of the self-provision, and why.
-    NoPay(Kw, Kw, Cause),
     Refused(Refusal),
     NotTaken(Reason),
 }
@@ -85,13 +82,7 @@ fn explained(refusal: Refusal) -> &'static str
         Refusal::WrongNumber(_) => "the number has not six digits or is past its limit",
         Refusal::VersionNotHigher(_) => "a version as high is held, or the bill is",
         Refusal::RegisterFull => "every place is taken",
-        Refusal::WrongPostingArgument(_) => "the argument of the posting is out of range",
-        Refusal::SignalLength => "a signal quarter has 1800 bytes",
-        Refusal::WrongSample(_) => "the sample is out of limits",
-        Refusal::WatchLength => "a watch quarter has 420 bytes",
-        Refusal::WrongMinute(_) => "the minute is bad",
         Refusal::WrongArgument(_) => "the argument is out of range",
-        Refusal::NotPosted => "the award or the watch quarter is not posted",
     }
 }
 
@@ -104,12 +95,6 @@ impl fmt::Display for Outcome {
             Outcome::Figure(cents) => {
                 let figure = cents.0;
                 write!(f, "{figure}")
-            }
-            Outcome::NoPay(award, self_provision, cause) => {
-                let award = award.0;
-                let self_provision = self_provision.0;
-                let cause = cause.number();
-                write!(f, "{award} {self_provision} {cause}")
             }
             Outcome::Refused(refusal) => {
                 let number = refusal.number();
@@ -184,9 +169,7 @@ impl Tally {
     {
         match outcome {
             Outcome::Taken => self.taken = self.taken.saturating_add(1),
-            Outcome::Figure(_) | Outcome::NoPay(_, _, _) => {
-                self.answered = self.answered.saturating_add(1)
-            }
+            Outcome::Figure(_) => self.answered = self.answered.saturating_add(1),
             Outcome::Refused(_) => self.refused = self.refused.saturating_add(1),
             Outcome::NotTaken(_) => self.not_taken = self.not_taken.saturating_add(1),
         }

@@ -3,7 +3,7 @@ use Rattle.std.proofs.Common.{ℕ, ◌≤◌, ℤ, pos, negsuc, nat_abs, arith}
 use Rattle.std.proofs.lemmas.Int.{ints}
 use Rattle.postings.specs.declared.posting.Side.{Side}
 use Rattle.postings.specs.declared.posting.Side.TheVariants.{Charge, Credit}
-use Rattle.units.specs.Bounds.{Within}
+use Rattle.postings.specs.Limits.{Within}
 use Rattle.postings.specs.Postings.{signed}
 
 pub signed_within : (side : Side) (limit : ℕ) (amount : ℤ) → Within limit amount → nat_abs (signed side amount) ≤ limit

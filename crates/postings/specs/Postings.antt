@@ -3,7 +3,7 @@ use Rattle.std.specs.Prelude.{ℕ, Bool, ◌&&◌, ℤ, neg_ℤ, ◌==◌}
 use Rattle.refusal.specs.declared.Document.TheVariants.{Record}
 use Rattle.register.specs.Shapes.{Shape}
 use Rattle.units.specs.declared.bounds.Direction.{Direction}
-use Rattle.units.specs.Directions.{direction_number}
+use Rattle.units.specs.declared.bounds.Direction.TheVariants.{Up, Down}
 use Rattle.postings.specs.declared.posting.Kind.{Kind}
 use Rattle.postings.specs.declared.posting.Kind.TheVariants.{Award as AWD, Mileage as MIL, Capacity as CAP, Obligation as OBL, Bill as BIL}
 use Rattle.postings.specs.declared.posting.Side.{Side}
@@ -64,6 +64,10 @@ kind_number MIL = 1
 kind_number CAP = 2
 kind_number OBL = 3
 kind_number BIL = 4
+
+abbrev pub direction_number : Direction → ℕ
+direction_number Up = 0
+direction_number Down = 1
 
 -- whether two keys are equal, part by part
 abbrev pub same_key : Key → Key → Bool

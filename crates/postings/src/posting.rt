@@ -1,8 +1,7 @@
 //! What a record posts: each number is kept within the limits of its kind.
 
 ghost use Rattle.std.specs.Prelude.{◌≡◌, ◌≤◌};
-ghost use Rattle.units.specs.Bounds.{Within};
-ghost use Rattle.postings.specs.Limits.{EachWithin};
+ghost use Rattle.postings.specs.Limits.{Within, EachWithin};
 
 use roster::{MemberIndex, SiteIndex};
 use units::{Cents, CentsPerMw, Direction, Hour, Kw, Version};

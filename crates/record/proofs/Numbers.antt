@@ -2,8 +2,7 @@
 use Rattle.std.proofs.Common.{◌≡◌, ℕ, ◌+◌, ◌-◌, ◌*◌, ◌<◌, ◌≤◌, ◌≢◌, List, [], ◌∷◌, ◌++◌, length, get_or, take, drop, set, Ok, Err, Result, sym, refl, ap, ◌∙◌, arith, below_more}
 use Rattle.std.proofs.lemmas.List.{append_assoc, append-nil, drop_more, drop_all, drop-drop, take_all, take_more_set, get_or-set_same, get_or-set_other}
 use Rattle.refusal.specs.declared.Refusal.{Refusal}
-use Rattle.refusal.specs.Checks.{then}
-use Rattle.record.specs.Reading.{number_in, numbers_in}
+use Rattle.record.specs.Reading.{then, number_in, numbers_in}
 
 -- what the numbers read as, where the first i of them are known
 abbrev pub with_first : ℕ → List ℕ → List ℕ → List ℕ → Result (List ℕ) Refusal

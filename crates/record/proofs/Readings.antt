@@ -13,8 +13,7 @@ use Rattle.postings.specs.declared.posting.Kind.{Kind}
 use Rattle.postings.specs.declared.posting.Kind.TheVariants.{Award, Mileage, Capacity, Obligation, Bill}
 use Rattle.postings.specs.declared.posting.Side.{Side}
 use Rattle.postings.specs.Postings.{Terms, award, mileage, capacity, obligation, bill, Said, key_for, key_of}
-use Rattle.refusal.specs.Checks.{then}
-use Rattle.record.specs.Reading.{framed, kind_in, direction_in, number_after, between, hour_in, version_in, blank_as, named_in, name_in, limits_of, numbers_in, terms_for, version_for, field, reading}
+use Rattle.record.specs.Reading.{then, framed, kind_in, direction_in, number_after, between, hour_in, version_in, blank_as, named_in, name_in, limits_of, numbers_in, terms_for, version_for, field, reading}
 
 -- a bill has a member of the roster, a number from 1 to 999 and no version
 pub record BillSound (roster : Lines) (version member number : ℕ) : Type 0 where

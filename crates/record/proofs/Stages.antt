@@ -8,8 +8,7 @@ use Rattle.units.specs.declared.bounds.Direction.{Direction}
 use Rattle.postings.specs.declared.posting.Kind.{Kind}
 use Rattle.postings.specs.declared.posting.Posting.{Posting}
 use Rattle.postings.specs.Postings.{Said, said, version_of, terms_of}
-use Rattle.refusal.specs.Checks.{then}
-use Rattle.record.specs.Reading.{field, framed, kind_in, direction_in, hour_in, version_in, name_in, limits_of, numbers_in, terms_for, version_for, reading}
+use Rattle.record.specs.Reading.{then, field, framed, kind_in, direction_in, hour_in, version_in, name_in, limits_of, numbers_in, terms_for, version_for, reading}
 
 pub pass : {A B : Type 0} (next : A → Result B Refusal) {r : Result A Refusal} {x : A} → r ≡ Ok x → then r next ≡ next x
 pass next e = ap (λ r. then r next) e

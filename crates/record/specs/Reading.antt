@@ -3,9 +3,8 @@ use Rattle.std.specs.Prelude.{ℕ, zero, suc, ◌+◌, ◌-◌, ◌*◌, Bool, t
 use Rattle.std.specs.Option.{ok_or}
 use Rattle.refusal.specs.declared.Refusal.{Refusal}
 use Rattle.refusal.specs.declared.Refusal.TheVariants.{RecordLength, UnknownKind, UnknownDirection, WrongHour, WrongVersion, MalformedName, UnknownName, WrongNumber}
-use Rattle.refusal.specs.Checks.{then}
 use Rattle.units.specs.declared.bounds.Direction.{Direction}
-use Rattle.units.specs.Directions.{direction_of}
+use Rattle.units.specs.declared.bounds.Direction.TheVariants.{Up, Down}
 use Rattle.names.specs.Names.{text}
 use Rattle.roster.specs.Rosters.{Lines, found, site_names}
 use Rattle.postings.specs.declared.posting.Kind.{Kind}
@@ -17,6 +16,11 @@ use Rattle.postings.specs.Postings.{Terms, award, mileage, capacity, obligation,
 -- the bytes from a place on, so many of them
 abbrev pub field : ℕ → ℕ → List ℕ → List ℕ
 field from count xs = take count (drop from xs)
+
+-- what follows, unless this was turned back
+abbrev pub then : {A B : Type 0} → Result A Refusal → (A → Result B Refusal) → Result B Refusal
+then (Ok x) next = next x
+then (Err e) next = Err e
 
 -- 64 bytes, a newline last
 abbrev pub framed : List ℕ → Bool
@@ -38,7 +42,7 @@ kind_in xs =
 
 -- U or D
 abbrev pub direction_in : ℕ → Result Direction Refusal
-direction_in letter = ok_or (direction_of letter) UnknownDirection
+direction_in letter = cond (letter == 85) (Ok Up) (cond (letter == 68) (Ok Down) (Err UnknownDirection))
 
 abbrev pub digit : ℕ → Bool
 digit b = nat_le 48 b && nat_le b 57

@@ -40,7 +40,11 @@ pub(crate) fn read_kind(bytes: &[u8]) -> Result<(Kind, &[u8]), Refusal>
 pub(crate) fn read_direction(letter: u8) -> Result<Direction, Refusal>
     ensures { result ≡ direction_in letter }
 {
-    Direction::of(letter).ok_or(Refusal::UnknownDirection)
+    match char::from(letter) {
+        'U' => Ok(Direction::Up),
+        'D' => Ok(Direction::Down),
+        _ => Err(Refusal::UnknownDirection),
+    }
 }
 
 // The number that decimal digits write.
@@ -64,7 +68,7 @@ pub(crate) fn read_hour(digits: &[u8]) -> Result<Hour, Refusal>
     ensures { MatchResult result (λ h. hour_in digits.now ≡ Ok h.value) (λ e. hour_in digits.now ≡ Err e) }
 {
     let value = read_digits(digits).ok_or(Refusal::WrongHour)?;
-    Hour::new(value as usize).ok_or(Refusal::WrongHour)
+    Hour::new(value as u8).ok_or(Refusal::WrongHour)
 }
 
 // A version, or the number of a bill.
@@ -73,7 +77,7 @@ pub(crate) fn read_version(digits: &[u8]) -> Result<Version, Refusal>
     ensures { MatchResult result (λ v. version_in digits.now ≡ Ok v.value) (λ e. version_in digits.now ≡ Err e) }
 {
     let value = read_digits(digits).ok_or(Refusal::WrongVersion)?;
-    Version::new(value as usize).ok_or(Refusal::WrongVersion)
+    Version::new(value as u16).ok_or(Refusal::WrongVersion)
 }
 
 // The limit of each of the five numbers; one that the kind does not have is 0.

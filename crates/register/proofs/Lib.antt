@@ -4,4 +4,3 @@ pub mod Laws
 pub mod Sums
 pub mod Views
 pub mod Taken
-pub mod TakenViews

@@ -2,27 +2,20 @@
 use Rattle.std.specs.Prelude.{◌≡◌, ℕ, ◌-◌, ◌^◌, ◌⊎◌, List, [], ◌∷◌, ◌++◌, map, Some, None, Option}
 use Rattle.std.specs.Option.{unwrap_or}
 use Rattle.day.specs.declared.calls.Answer.{Answer}
-use Rattle.day.specs.declared.calls.Answer.TheVariants.{Taken, Figure, NoPay, Refused}
+use Rattle.day.specs.declared.calls.Answer.TheVariants.{Taken, Figure, Refused}
 use Rattle.day.specs.Days.{State}
-use Rattle.day.specs.Requests.{Request, post, balance, account, no_pay}
+use Rattle.day.specs.Requests.{Request, post, balance, account}
 use Rattle.day.specs.Answers.{answer, after}
 use Rattle.journal.specs.Lines.{records_of}
 use Rattle.outcomes.specs.declared.outcome.Outcome.{Outcome}
-use Rattle.outcomes.specs.declared.outcome.Outcome.TheVariants.{Taken as was_taken, Figure as was_figure, NoPay as was_no_pay, Refused as was_refused, NotTaken}
+use Rattle.outcomes.specs.declared.outcome.Outcome.TheVariants.{Taken as was_taken, Figure as was_figure, Refused as was_refused, NotTaken}
 use Rattle.outcomes.specs.declared.outcome.Reason.TheVariants.{NoMemory}
-use Rattle.signal.specs.declared.signal.SignalArguments.{SignalArguments}
-use Rattle.watch.specs.declared.watch.WatchArguments.{WatchArguments}
-use Rattle.day.specs.declared.question.NoPayArguments.{NoPayArguments}
-use Rattle.journal.specs.declared.read.SignalLine.{SignalLine}
-use Rattle.journal.specs.declared.read.WatchLine.{WatchLine}
-use Rattle.journal.specs.declared.read.NoPayLine.{NoPayLine}
 use Rattle.journal.specs.declared.read.Line.{Line}
-use Rattle.journal.specs.declared.read.Line.TheVariants.{Passed, Member, Site, Open, Record, Records, Signal, Watch, Balance, Account, NoPay, Wrong}
+use Rattle.journal.specs.declared.read.Line.TheVariants.{Passed, Member, Site, Open, Record, Records, Balance, Account, Wrong}
 
 abbrev pub outcome : Answer → Outcome
 outcome Taken = was_taken
 outcome (Figure cents) = was_figure cents
-outcome (NoPay award self_provision cause) = was_no_pay award self_provision cause
 outcome (Refused refusal) = was_refused refusal
 
 abbrev pub first_outcome : List Answer → Outcome
@@ -33,40 +26,6 @@ first_outcome (a ∷ more) = outcome a
 abbrev pub argument_of : Option ℕ → ℕ
 argument_of number = unwrap_or number (2 ^ 64 - 1)
 
--- the letter that a word is; a word that is not one letter counts as 0, which is no direction
-abbrev pub letter_of : List ℕ → ℕ
-letter_of [] = 0
-letter_of (b ∷ []) = b
-letter_of (b ∷ c ∷ bs) = 0
-
--- the arguments that a signal line has
-abbrev pub signal_arguments_in : SignalLine → SignalArguments
-signal_arguments_in line = record {
-  site = argument_of line.site;
-  direction = letter_of line.direction.now;
-  hour = argument_of line.hour;
-  quarter = argument_of line.quarter;
-  version = argument_of line.version;
-}
-
--- those of a watch line
-abbrev pub watch_arguments_in : WatchLine → WatchArguments
-watch_arguments_in line = record {
-  site = argument_of line.site;
-  hour = argument_of line.hour;
-  quarter = argument_of line.quarter;
-  version = argument_of line.version;
-}
-
--- those of a no-pay question
-abbrev pub no_pay_arguments_in : NoPayLine → NoPayArguments
-no_pay_arguments_in line = record {
-  site = argument_of line.site;
-  direction = letter_of line.direction.now;
-  hour = argument_of line.hour;
-  quarter = argument_of line.quarter;
-}
-
 -- the request of a question
 abbrev pub asked : Line → Option Request
 asked Passed = None
@@ -75,11 +34,8 @@ asked (Site index name) = None
 asked (Open places) = None
 asked (Record text) = None
 asked (Records file) = None
-asked (Signal line) = None
-asked (Watch line) = None
 asked (Balance number) = Some (balance (argument_of number))
 asked (Account number) = Some (account (argument_of number))
-asked (NoPay line) = Some (no_pay (no_pay_arguments_in line))
 asked (Wrong reason) = None
 
 -- a record without its newline, posted with it

@@ -4,10 +4,8 @@ use Rattle.refusal.specs.declared.Refusal.{Refusal}
 use Rattle.roster.specs.Rosters.{Lines, opening as roster_opening}
 use Rattle.outcomes.specs.declared.outcome.Outcome.TheVariants.{Refused, NotTaken}
 use Rattle.outcomes.specs.declared.outcome.Reason.TheVariants.{NoDay, NoMemory}
-use Rattle.journal.specs.Reading.{Request, passed, member, site, opening, posting, postings_in, signal, watch, balance, account, no_pay, wrong}
+use Rattle.journal.specs.Reading.{Request, passed, member, site, opening, posting, postings_in, balance, account, wrong}
 use Rattle.session.specs.Calls.{argument_of}
-use Rattle.journal.specs.declared.read.Places.{Places}
-use Rattle.session.specs.declared.opening.DayPlaces.{DayPlaces}
 use Rattle.session.specs.declared.opening.Step.{Step}
 use Rattle.session.specs.declared.opening.Step.TheVariants.{Silent, Printed, Opened}
 
@@ -16,32 +14,20 @@ abbrev pub gathering : Bool → Step
 gathering true = Silent
 gathering false = Printed (NotTaken NoMemory)
 
--- how many places the registers have: at most one for each key that a record, a signal quarter or a watch quarter can have
-abbrev pub record_places : ℕ → ℕ
-record_places count = min count 769632
-
-abbrev pub signal_places : ℕ → ℕ
-signal_places count = min count 6144
-
-abbrev pub watch_places : ℕ → ℕ
-watch_places count = min count 3072
-
--- the places of a day, all free
-pub record Free (asked : Places) (places : DayPlaces) : Type 0 where
-  pub records : vec_items places.records ≡ replicate (record_places asked.records) None
-  pub signals : vec_items places.signals ≡ replicate (signal_places asked.signals) None
-  pub watches : vec_items places.watches ≡ replicate (watch_places asked.watches) None
+-- how many places the register of records has: at most one for each key that a record can have
+abbrev pub place_count : ℕ → ℕ
+place_count count = min count 769632
 
 -- a roster without lines
 abbrev pub no_lines : Lines
 no_lines = record { members = []; sites = [] }
 
 -- what an opening comes to by what the roster's check answers, and the roster lines after it: a refused roster is used up
-abbrev pub OpeningStep : Result (Unit {0}) Refusal → Places → Lines → Step → Lines → Type 0
-OpeningStep (Ok x) asked l Silent l' = ⊥
-OpeningStep (Ok x) asked l (Printed o) l' = (o ≡ NotTaken NoMemory) × (l' ≡ l)
-OpeningStep (Ok x) asked l (Opened places) l' = Free asked places × (l' ≡ l)
-OpeningStep (Err e) asked l r l' = (r ≡ Printed (Refused e)) × (l' ≡ no_lines)
+abbrev pub OpeningStep : Result (Unit {0}) Refusal → ℕ → Lines → Step → Lines → Type 0
+OpeningStep (Ok x) count l Silent l' = ⊥
+OpeningStep (Ok x) count l (Printed o) l' = (o ≡ NotTaken NoMemory) × (l' ≡ l)
+OpeningStep (Ok x) count l (Opened places) l' = (vec_items places ≡ replicate (place_count count) None) × (l' ≡ l)
+OpeningStep (Err e) count l r l' = (r ≡ Printed (Refused e)) × (l' ≡ no_lines)
 
 -- one line more, or memory for it was wanting
 abbrev pub Gathered : Lines → Lines → Step → Lines → Type 0
@@ -58,14 +44,11 @@ abbrev pub LineStep : Request → Lines → Step → Lines → Type 0
 LineStep passed l r l' = (r ≡ Silent) × (l' ≡ l)
 LineStep (member name) l r l' = Gathered l (with_member l name) r l'
 LineStep (site number name) l r l' = Gathered l (with_site l (argument_of number) name) r l'
-LineStep (opening places) l r l' = OpeningStep (roster_opening l) places l r l'
+LineStep (opening places) l r l' = OpeningStep (roster_opening l) places.records l r l'
 LineStep (posting text) l r l' = (r ≡ Printed (NotTaken NoDay)) × (l' ≡ l)
 LineStep (postings_in file) l r l' = (r ≡ Printed (NotTaken NoDay)) × (l' ≡ l)
-LineStep (signal a d h q v file) l r l' = (r ≡ Printed (NotTaken NoDay)) × (l' ≡ l)
-LineStep (watch a h q v file) l r l' = (r ≡ Printed (NotTaken NoDay)) × (l' ≡ l)
 LineStep (balance number) l r l' = (r ≡ Printed (NotTaken NoDay)) × (l' ≡ l)
 LineStep (account number) l r l' = (r ≡ Printed (NotTaken NoDay)) × (l' ≡ l)
-LineStep (no_pay a d h q) l r l' = (r ≡ Printed (NotTaken NoDay)) × (l' ≡ l)
 LineStep (wrong reason) l r l' = (r ≡ Printed (NotTaken reason)) × (l' ≡ l)
 
 -- a fact where the line opened a day

@@ -3,5 +3,5 @@
 pub mod calls;
 pub mod opening;
 
-pub use calls::{make_one, outcome_of, post, post_all, post_signal, post_watch, question};
-pub use opening::{DayPlaces, Step, take_line};
+pub use calls::{make_one, outcome_of, post, post_all, question};
+pub use opening::{RecordPlaces, Step, take_line};

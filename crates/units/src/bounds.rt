@@ -1,29 +1,12 @@
 //! Numbers that the rules limit, each in a type that keeps its limits.
 
 ghost use Rattle.std.specs.Prelude.{◌≡◌, ◌<◌, ◌≤◌, MatchOption};
-ghost use Rattle.units.specs.Directions.{direction_of};
-ghost use Rattle.units.specs.Bounds.{Within, full_accuracy, mileage_limit};
-
-use crate::quantity::Kw;
 
 // Up: the site is told to give more, down: less.
 #[derive(Clone, Copy, PartialEq, Eq)]
 pub enum Direction {
     Up,
     Down,
-}
-
-impl Direction {
-    // The direction that a letter stands for.
-    pub fn of(letter: u8) -> Option<Direction>
-        ensures { result ≡ direction_of letter }
-    {
-        match char::from(letter) {
-            'U' => Some(Direction::Up),
-            'D' => Some(Direction::Down),
-            _ => None,
-        }
-    }
 }
 
 // An hour of the trading day, 0 to 23.
@@ -34,11 +17,11 @@ pub struct Hour {
 }
 
 impl Hour {
-    pub fn new(value: usize) -> Option<Hour>
+    pub fn new(value: u8) -> Option<Hour>
         ensures { MatchOption result (24 ≤ value) (λ h. h.value ≡ value) }
     {
         if value < 24 {
-            Some(Hour { value: value as u8 })
+            Some(Hour { value })
         } else {
             None
         }
@@ -53,11 +36,11 @@ pub struct Quarter {
 }
 
 impl Quarter {
-    pub fn new(value: usize) -> Option<Quarter>
+    pub fn new(value: u8) -> Option<Quarter>
         ensures { MatchOption result (4 ≤ value) (λ q. q.value ≡ value) }
     {
         if value < 4 {
-            Some(Quarter { value: value as u8 })
+            Some(Quarter { value })
         } else {
             None
         }
@@ -73,33 +56,13 @@ pub struct Version {
 }
 
 impl Version {
-    pub fn new(value: usize) -> Option<Version>
+    pub fn new(value: u16) -> Option<Version>
         ensures { MatchOption result ((1 ≤ value) → 999 < value) (λ v. v.value ≡ value) }
     {
         if value >= 1 && value <= 999 {
-            Some(Version {
-                value: value as u16,
-            })
+            Some(Version { value })
         } else {
             None
         }
     }
-}
-
-// How well a site followed its signal, in hundredths of a percent: 0 to 10,000.
-#[derive(Clone, Copy)]
-pub struct Accuracy {
-    pub value: i64,
-    ghost within: { Within full_accuracy value },
-}
-
-impl Accuracy {
-    pub const FULL: i64 = 10_000;
-}
-
-// The distance that a site was told to move in a quarter, less what it only made up for: 0 to 11,250,000 kW.
-#[derive(Clone, Copy)]
-pub struct AdjustedMileage {
-    pub value: Kw,
-    ghost within: { Within mileage_limit value.0 },
 }

@@ -4,6 +4,6 @@ pub mod bounds;
 pub mod division;
 pub mod quantity;
 
-pub use bounds::{Accuracy, AdjustedMileage, Direction, Hour, Quarter, Version};
+pub use bounds::{Direction, Hour, Quarter, Version};
 pub use division::floor_div;
 pub use quantity::{Cents, CentsPerMw, Kw};

@@ -3,7 +3,7 @@ use Rattle.day.specs.Requests.{request_of}
 use Rattle.day.specs.States.{state_of}
 use Rattle.history.specs.Runs.{Run, events, with_events}
 use Rattle.history.proofs.Plays.{plays_run, requests_are, answers, play_more, answers_more, play_end, answers_end}
-use Rattle.history.proofs.Laws.{taken_exactly_when, bill_taken_exactly_when, signal_taken_exactly_when, watch_taken_exactly_when, holds_what_was_last_taken, no_pay_is_of_what_was_last_taken, balances_are_bills, adds_up_to_zero, figures_depend_on_holdings_alone}
+use Rattle.history.proofs.Laws.{taken_exactly_when, bill_taken_exactly_when, balances_are_bills, adds_up_to_zero, figures_depend_on_holdings_alone}
 use Rattle.history.proofs.replay.Goals as goal
 
 pub returns-in-Err : goal.returns-in-Err
@@ -14,10 +14,6 @@ returns-in-Err c = record {
   run = tt;
   taken = taken_exactly_when;
   bills = bill_taken_exactly_when;
-  signals = signal_taken_exactly_when;
-  watches = watch_taken_exactly_when;
-  held = holds_what_was_last_taken;
-  no_pay = no_pay_is_of_what_was_last_taken;
   balances = balances_are_bills;
   zero = adds_up_to_zero;
   holdings = figures_depend_on_holdings_alone;
@@ -58,10 +54,6 @@ returns c =
       run = λ o es run. subst (λ u. Run o (with_events es (events s (map request_of calls))) u) (sym plays) (plays_run o (map request_of calls) s es run);
       taken = taken_exactly_when;
       bills = bill_taken_exactly_when;
-      signals = signal_taken_exactly_when;
-      watches = watch_taken_exactly_when;
-      held = holds_what_was_last_taken;
-      no_pay = no_pay_is_of_what_was_last_taken;
       balances = balances_are_bills;
       zero = adds_up_to_zero;
       holdings = figures_depend_on_holdings_alone;
