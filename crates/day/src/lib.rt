@@ -1,5 +1,7 @@
 //! A trading day: the roster, the postings that it took, and what its questions answer.
 
+#![tactic(auto)]
+
 pub mod account;
 pub mod calls;
 pub mod open_day;

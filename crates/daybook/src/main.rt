@@ -1,5 +1,7 @@
 //! `daybook JOURNAL` makes the calls of a journal, one to a line, and prints what became of each.
 
+#![tactic(auto)]
+
 mod output;
 mod run;
 

@@ -1,5 +1,7 @@
 //! Worked figures, each shown to be what the definitions compute.
 
+#![tactic(auto)]
+
 ghost use Rattle.std.specs.Prelude.{◌≡◌};
 ghost use Rattle.figures.specs.Mileages.{computed};
 

@@ -1,5 +1,7 @@
 //! A day's calls one after the other, and what holds after every list of them.
 
+#![tactic(auto)]
+
 ghost use Rattle.std.specs.Prelude.{◌≡◌, List, map, IfOk, MatchResult};
 ghost use Rattle.day.specs.Requests.{request_of};
 ghost use Rattle.day.specs.States.{state_of};

@@ -1,5 +1,7 @@
 //! How a journal is read: its lines, their words, and the call that each line is.
 
+#![tactic(auto)]
+
 pub mod lines;
 pub mod paths;
 pub mod read;

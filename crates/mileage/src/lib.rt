@@ -1,5 +1,7 @@
 //! What a site is paid for its mileage in a quarter: a day-ahead part and a real-time part, each at its own price.
 
+#![tactic(auto)]
+
 pub mod parts;
 pub mod payment;
 

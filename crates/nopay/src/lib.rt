@@ -1,5 +1,7 @@
 //! What a site is not paid: it was awarded regulation, and was not available for all of it.
 
+#![tactic(auto)]
+
 pub mod cause;
 pub mod figures;
 pub mod hour;

@@ -1,5 +1,7 @@
 //! What became of a call, as it is printed and counted.
 
+#![tactic(auto)]
+
 pub mod outcome;
 
 pub use outcome::{Label, Outcome, Reason, Tally, report};

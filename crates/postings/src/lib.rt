@@ -1,5 +1,7 @@
 //! What a record posts, as typed values, and the key that it is held under.
 
+#![tactic(auto)]
+
 pub mod entry;
 pub mod posting;
 

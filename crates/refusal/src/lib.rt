@@ -1,5 +1,7 @@
 //! Why a call was turned back: one case for each check, with its number, its layer and its place.
 
+#![tactic(auto)]
+
 ghost use Rattle.std.specs.Prelude.{◌≡◌};
 ghost use Rattle.refusal.specs.Refusals.{number_of, layer_of, place_of, version_place};
 
@@ -51,8 +53,16 @@ pub enum Refusal {
     // Putting into a register.
     VersionNotHigher(Document),
     RegisterFull,
+    // Posting a signal or a watch: the argument, the sample and the minute each by its index.
+    WrongPostingArgument(u8),
+    SignalLength,
+    WrongSample(u8),
+    WatchLength,
+    WrongMinute(u8),
     // Asking: the argument by its index.
     WrongArgument(u8),
+    // Asking for the no pay of a quarter: no award or no watch was posted.
+    NotPosted,
 }
 
 impl Refusal {
@@ -74,7 +84,13 @@ impl Refusal {
             Refusal::WrongNumber(_) => 17,
             Refusal::VersionNotHigher(_) => 18,
             Refusal::RegisterFull => 19,
+            Refusal::WrongPostingArgument(_) => 20,
+            Refusal::SignalLength => 21,
+            Refusal::WrongSample(_) => 22,
+            Refusal::WatchLength => 23,
+            Refusal::WrongMinute(_) => 24,
             Refusal::WrongArgument(_) => 50,
+            Refusal::NotPosted => 51,
         }
     }
 
@@ -96,7 +112,13 @@ impl Refusal {
             Refusal::WrongNumber(_) => Layer::Record,
             Refusal::VersionNotHigher(_) => Layer::Register,
             Refusal::RegisterFull => Layer::Register,
+            Refusal::WrongPostingArgument(_) => Layer::Record,
+            Refusal::SignalLength => Layer::Record,
+            Refusal::WrongSample(_) => Layer::Record,
+            Refusal::WatchLength => Layer::Record,
+            Refusal::WrongMinute(_) => Layer::Record,
             Refusal::WrongArgument(_) => Layer::Day,
+            Refusal::NotPosted => Layer::Day,
         }
     }
 
@@ -118,7 +140,13 @@ impl Refusal {
             Refusal::WrongNumber(index) => 33 + 6 * u16::from(index),
             Refusal::VersionNotHigher(document) => document.version_place(),
             Refusal::RegisterFull => 0,
+            Refusal::WrongPostingArgument(index) => u16::from(index),
+            Refusal::SignalLength => 0,
+            Refusal::WrongSample(index) => u16::from(index),
+            Refusal::WatchLength => 0,
+            Refusal::WrongMinute(index) => u16::from(index),
             Refusal::WrongArgument(index) => u16::from(index),
+            Refusal::NotPosted => 0,
         }
     }
 }

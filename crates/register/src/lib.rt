@@ -1,5 +1,7 @@
 //! A register: one container, over lent places, for any element that has a key and a version.
 
+#![tactic(auto)]
+
 ghost use Rattle.std.specs.Prelude.{◌≡◌, ℕ, ◌<◌, ◌≤◌, length, replicate, IfSome, Some, None, nat_lt};
 ghost use Rattle.std.specs.Option.{option_map};
 ghost use Rattle.register.specs.Shapes.{Shape, Decides};

@@ -1,5 +1,7 @@
 //! The members of the pool and their sites, and the names that records call them by.
 
+#![tactic(auto)]
+
 pub mod entries;
 pub mod opening;
 mod rows;

@@ -1,5 +1,7 @@
 //! What stands between a journal's lines and a day: the roster that they gather, and the calls that they make.
 
+#![tactic(auto)]
+
 pub mod calls;
 pub mod opening;
 

@@ -1,5 +1,7 @@
 //! A signal quarter: 225 samples, what they come to, and the posting of one.
 
+#![tactic(auto)]
+
 pub mod entry;
 pub mod measured;
 pub mod quarter;

@@ -1,1 +1,4 @@
+pub mod Bounds
+pub mod Directions
 pub mod Division
+pub mod Encoding

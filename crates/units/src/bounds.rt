@@ -1,12 +1,29 @@
 //! Numbers that the rules limit, each in a type that keeps its limits.
 
 ghost use Rattle.std.specs.Prelude.{◌≡◌, ◌<◌, ◌≤◌, MatchOption};
+ghost use Rattle.units.specs.Directions.{direction_of};
+ghost use Rattle.units.specs.Bounds.{Within, full_accuracy, mileage_limit};
+
+use crate::quantity::Kw;
 
 // Up: the site is told to give more, down: less.
 #[derive(Clone, Copy, PartialEq, Eq)]
 pub enum Direction {
     Up,
     Down,
+}
+
+impl Direction {
+    // The direction that a letter stands for.
+    pub fn of(letter: u8) -> Option<Direction>
+        ensures { result ≡ direction_of letter }
+    {
+        match char::from(letter) {
+            'U' => Some(Direction::Up),
+            'D' => Some(Direction::Down),
+            _ => None,
+        }
+    }
 }
 
 // An hour of the trading day, 0 to 23.
@@ -65,4 +82,22 @@ impl Version {
             None
         }
     }
+}
+
+// How well a site followed its signal, in hundredths of a percent: 0 to 10,000.
+#[derive(Clone, Copy)]
+pub struct Accuracy {
+    pub value: i64,
+    ghost within: { Within full_accuracy value },
+}
+
+impl Accuracy {
+    pub const FULL: i64 = 10_000;
+}
+
+// The distance that a site was told to move in a quarter, less what it only made up for: 0 to 11,250,000 kW.
+#[derive(Clone, Copy)]
+pub struct AdjustedMileage {
+    pub value: Kw,
+    ghost within: { Within mileage_limit value.0 },
 }

@@ -1,5 +1,7 @@
 //! A watch quarter: 15 minutes, how the site was available in them, and the posting of one.
 
+#![tactic(auto)]
+
 pub mod availability;
 pub mod entry;
 mod findings;

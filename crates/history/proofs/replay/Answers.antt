@@ -19,8 +19,8 @@ returns-in-Err c = record {
   holdings = figures_depend_on_holdings_alone;
 }
 
-pub push-reserved-requires : goal.push-reserved-requires
-push-reserved-requires c = omega arith
+pub push_reserved-requires : goal.push_reserved-requires
+push_reserved-requires c = omega arith
 
 pub loop-call-init : goal.loop-call-init
 loop-call-init c = search rules
@@ -33,7 +33,7 @@ loop-call-preserved c =
     let t = state_of c.make.new.day in
     let lt = c.loop-call-test.true in (
       play_more request_of calls i _ s t lt c.make.ensures.leaves ∙ c.loop-call.invariant.0,
-      ap (λ items. items ++ answers t (map request_of (drop (i + 1) calls))) c.push-reserved.ensures.items
+      ap (λ items. items ++ answers t (map request_of (drop (i + 1) calls))) c.push_reserved.ensures.items
           ∙ answers_more request_of calls i _ s t _ _ lt c.make.ensures.leaves c.make.ensures.answers ∙ c.loop-call.invariant.1,
       omega arith,
       omega arith,

@@ -4,7 +4,7 @@ use Rattle.std.proofs.lemmas.List.Sums.{prefix_len-le-length}
 use Rattle.names.specs.Names.{plain}
 use Rattle.names.proofs.Pieces.{after, bare, wrong_escape, right_escape, stretch}
 use Rattle.names.proofs.first_piece.Goals as goal
-use Rattle.names.proofs.first_piece.Goals.{in-default-via-then-bytes-lt1, in-default-via-else-bytes-lt1+in-default·}
+use Rattle.names.proofs.first_piece.Goals.{in_default-via-then-bytes-lt1, in_default-via-else-bytes-lt1+in_default-1}
 
 pair : {a b c d : List ℕ} → a ≡ b → c ≡ d → ◌≡◌ {A = List ℕ × List ℕ} (a, c) (b, d)
 pair {a} {b} {c} {d} e f = ap (λ x. (x, c)) e ∙ ap (λ y. (b, y)) f
@@ -28,13 +28,13 @@ returns-in-60 c =
     let is : get_or c.args.bytes.now 0 0 ≡ 60 = omega arith in
     bare c.args.bytes.now some is
 
-pub returns-in-default : goal.returns-in-default
-returns-in-default c =
-    let n = c.plain-len.ensures in
-    ap (λ (p : List ℕ × List ℕ). Some p) (pair (c.split-at.ensures.front ∙ ap (λ k. take k c.args.bytes.now) n) (c.split-at.ensures.back ∙ ap (λ k. drop k c.args.bytes.now) n))
+pub returns-in_default : goal.returns-in_default
+returns-in_default c =
+    let n = c.plain_len.ensures in
+    ap (λ (p : List ℕ × List ℕ). Some p) (pair (c.split_at.ensures.front ∙ ap (λ k. take k c.args.bytes.now) n) (c.split_at.ensures.back ∙ ap (λ k. drop k c.args.bytes.now) n))
     ∙ stretch c.args.bytes.now
-    (λ some is. elim c.in-default.branch [ in-default-via-then-bytes-lt1 w ↦ omega (arith, ltb-true) | in-default-via-else-bytes-lt1+in-default· w ↦ omega (arith, ltb-true) ])
-    (λ some is. elim c.in-default.branch [ in-default-via-then-bytes-lt1 w ↦ omega (arith, ltb-true) | in-default-via-else-bytes-lt1+in-default· w ↦ omega (arith, ltb-true) ])
+    (λ some is. elim c.in_default.branch [ in_default-via-then-bytes-lt1 w ↦ omega (arith, ltb-true) | in_default-via-else-bytes-lt1+in_default-1 w ↦ omega (arith, ltb-true) ])
+    (λ some is. elim c.in_default.branch [ in_default-via-then-bytes-lt1 w ↦ omega (arith, ltb-true) | in_default-via-else-bytes-lt1+in_default-1 w ↦ omega (arith, ltb-true) ])
 
-pub split-at-requires : goal.split-at-requires
-split-at-requires c = omega (arith, prefix_len-le-length plain c.args.bytes.now)
+pub split_at-requires : goal.split_at-requires
+split_at-requires c = omega (arith, prefix_len-le-length plain c.args.bytes.now)

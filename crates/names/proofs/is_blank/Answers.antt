@@ -4,4 +4,4 @@ use Rattle.names.proofs.Comparisons.{blank_is}
 use Rattle.names.proofs.is_blank.Goals as goal
 
 pub returns : goal.returns
-returns c = c.reads-as.ensures ∙ blank_is (text c.args.field.now)
+returns c = c.reads_as.ensures ∙ blank_is (text c.args.field.now)

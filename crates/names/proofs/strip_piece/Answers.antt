@@ -6,5 +6,5 @@ use Rattle.std.proofs.lemmas.Bool.Decides.{Decides-eqb}
 
 pub returns-in-Plain : goal.returns-in-Plain
 returns-in-Plain c =
-    let k = strip_prefix_is Decides-eqb c.args.name.now c.in-Plain.bytes.now c.strip-prefix.result c.strip-prefix.ensures.cases in
+    let k = strip_prefix_is Decides-eqb c.args.name.now c.in-Plain.bytes.now c.strip_prefix.result c.strip_prefix.ensures.cases in
     rw c.in-Plain.is k

@@ -8,8 +8,8 @@ loop-left-preserved c =
     let last : get_or c.loop-left.left.now (length c.loop-left.left.now - 1) 0 ≡ 32 = omega arith in
     trim_less c.loop-left.left.now some last ∙ c.loop-left.invariant
 
-pub returns-in-default : goal.returns-in-default
-returns-in-default c = trim_done c.loop-left.left.now (λ some last. omega (arith, ltb-true)) ∙ c.loop-left.invariant
+pub returns-in_default : goal.returns-in_default
+returns-in_default c = trim_done c.loop-left.left.now (λ some last. omega (arith, ltb-true)) ∙ c.loop-left.invariant
 
-pub returns-in-default·2 : goal.returns-in-default·2
-returns-in-default·2 c = trim_done c.loop-left.left.now (λ some last. omega (arith, ltb-true)) ∙ c.loop-left.invariant
+pub returns-in_default-2 : goal.returns-in_default-2
+returns-in_default-2 c = trim_done c.loop-left.left.now (λ some last. omega (arith, ltb-true)) ∙ c.loop-left.invariant

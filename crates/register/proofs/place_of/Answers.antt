@@ -2,8 +2,8 @@ use Rattle.std.proofs.Common.{arith}
 use Rattle.std.proofs.lemmas.List.{drop_more, drop_all}
 use Rattle.register.proofs.place_of.Goals as goal
 
-pub returns-then-is-under : goal.returns-then-is-under
-returns-then-is-under g c = record { value = grind (arith, drop_more); within = c.loop-i-test.true }
+pub returns-then-is_under : goal.returns-then-is_under
+returns-then-is_under g c = record { value = grind (arith, drop_more); within = c.loop-i-test.true }
 
 pub loop-i-preserved : goal.loop-i-preserved
 loop-i-preserved g c = grind (arith, drop_more)

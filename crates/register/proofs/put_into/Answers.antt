@@ -21,16 +21,16 @@ returns-else-supersedes g c =
     let done = put_not_higher w xs c.args.e _ _ (c.in-Some.ensures.value ∙ ap (λ k. place_of w k 0 xs) c.key.ensures) lower in
     record { answers = ap (λ d. Err (VersionNotHigher d)) c.document.ensures ∙ done.answers; leaves = done.leaves }
 
-pub returns-in-Some-free-place : goal.returns-in-Some-free-place
-returns-in-Some-free-place g c =
+pub returns-in-Some-free_place : goal.returns-in-Some-free_place
+returns-in-Some-free_place g c =
     let w = g.E.Entry.shape in
     let xs = c.args.places.now in
-    let done = put_free w xs c.args.e c.in-Some-free-place.i (c.in-None.ensures.value ∙ ap (λ k. place_of w k 0 xs) c.key.ensures) c.in-Some-free-place.ensures.value in
+    let done = put_free w xs c.args.e c.in-Some-free_place.i (c.in-None.ensures.value ∙ ap (λ k. place_of w k 0 xs) c.key.ensures) c.in-Some-free_place.ensures.value in
     record { answers = done.answers; leaves = done.leaves }
 
-pub returns-in-None-free-place : goal.returns-in-None-free-place
-returns-in-None-free-place g c =
+pub returns-in-None-free_place : goal.returns-in-None-free_place
+returns-in-None-free_place g c =
     let w = g.E.Entry.shape in
     let xs = c.args.places.now in
-    let done = put_full w xs c.args.e (c.in-None.ensures.value ∙ ap (λ k. place_of w k 0 xs) c.key.ensures) c.in-None-free-place.ensures.value in
+    let done = put_full w xs c.args.e (c.in-None.ensures.value ∙ ap (λ k. place_of w k 0 xs) c.key.ensures) c.in-None-free_place.ensures.value in
     record { answers = done.answers; leaves = done.leaves }

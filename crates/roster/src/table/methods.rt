@@ -1,6 +1,6 @@
 //! Making a roster, and asking it.
 
-ghost use Rattle.std.specs.Prelude.{◌≡◌, ◌<◌, ◌≤◌, length, IfSome, Ok};
+ghost use Rattle.std.specs.Prelude.{◌≡◌, ◌<◌, ◌≤◌, length, IfSome, Ok, MatchOption};
 ghost use Rattle.std.specs.Option.{option_map};
 ghost use Rattle.roster.specs.Rosters.{lines_of, roster_of, site_names, found, opening};
 ghost use Rattle.names.specs.Names.{text};
@@ -23,6 +23,17 @@ impl<'a> Roster<'a> {
         ensures within { result ≤ 16 }
     {
         self.members.len()
+    }
+
+    // The site of a number, if it is on the roster.
+    pub fn site(&self, number: usize) -> Option<SiteIndex>
+        ensures { MatchOption result (length (roster_of self.now).sites ≤ number) (λ i. (i.value ≡ number) × (number < length (roster_of self.now).sites)) }
+    {
+        if number < self.sites.len() {
+            SiteIndex::new(number as u8)
+        } else {
+            None
+        }
     }
 
     // The member that the text of a name field names.

@@ -11,8 +11,8 @@ use Rattle.day.proofs.sums.sum_bills.Goals as goal
 pub add-total-requires : goal.add-total-requires
 add-total-requires c =
     let xs = c.args.places.now in
-    total_fits c.loop-place.total.0 c.cents-of.result.0 _ _ c.loop-place.invariant
-    (sum_limit c.args.billed xs c.requires c.loop-place.place-index) (sum_limit c.args.billed xs c.requires 0) c.cents-of.ensures.bound
+    total_fits c.loop-place.total.0 c.cents_of.result.0 _ _ c.loop-place.invariant
+    (sum_limit c.args.billed xs c.requires c.loop-place.place-index) (sum_limit c.args.billed xs c.requires 0) c.cents_of.ensures.bound
 
 pub loop-place-preserved : goal.loop-place-preserved
 loop-place-preserved c =
@@ -23,8 +23,8 @@ loop-place-preserved c =
     let rest = sum_held f (drop (i + 1) xs) in
     let more : sum_held f (drop i xs) ≡ value_of f c.place-item.result +ℤ rest =
     at_drop_more (sum_held f) xs i c.place-item.result c.loop-place-test.true ∙ ap (λ x. value_of f x +ℤ rest) (sym c.place-item.is) in
-    ap (λ z. z +ℤ rest) c.add-total.ensures ∙ +ℤ_assoc t c.cents-of.result.0 rest
-    ∙ ap (λ z. t +ℤ (z +ℤ rest)) c.cents-of.ensures.value ∙ ap (λ z. t +ℤ z) (sym more) ∙ c.loop-place.invariant
+    ap (λ z. z +ℤ rest) c.add-total.ensures ∙ +ℤ_assoc t c.cents_of.result.0 rest
+    ∙ ap (λ z. t +ℤ (z +ℤ rest)) c.cents_of.ensures.value ∙ ap (λ z. t +ℤ z) (sym more) ∙ c.loop-place.invariant
 
 pub returns : goal.returns
 returns c =

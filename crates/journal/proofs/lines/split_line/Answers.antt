@@ -11,7 +11,7 @@ returns-in-empty c =
     let text = c.args.text.now in
     let front = take_until is_newline text in
     let back = drop_until is_newline text in
-    let rest : c.split-at.result.1.now ≡ from is_newline text = cc in
+    let rest : c.split_at.result.1.now ≡ from is_newline text = cc in
     let none : length (from is_newline text) ≡ 0 = omega (arith, ltb-true, ap length rest) in
     let all = unended text none in
     record { line = cc; rest = cc }
@@ -21,8 +21,8 @@ returns-in-len1-up c =
     let text = c.args.text.now in
     let front = take_until is_newline text in
     let back = drop_until is_newline text in
-    let rest : c.split-at.result.1.now ≡ from is_newline text = cc in
+    let rest : c.split_at.result.1.now ≡ from is_newline text = cc in
     let some : 0 < length (from is_newline text) = omega (arith, ltb-false, ap length rest) in
     let all = ended text some in
-    let after = take_rest c.split-at.result.1.now 1 in
+    let after = take_rest c.split_at.result.1.now 1 in
     record { line = cc; rest = cc }

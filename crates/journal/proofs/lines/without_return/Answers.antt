@@ -8,8 +8,8 @@ returns-in-13 c =
     let last : get_or c.args.line.now (length c.args.line.now - 1) 0 ≡ 13 = omega arith in
     dropped c.args.line.now some last
 
-pub returns-in-default : goal.returns-in-default
-returns-in-default c = kept c.args.line.now (λ some last. omega (arith, ltb-true))
+pub returns-in_default : goal.returns-in_default
+returns-in_default c = kept c.args.line.now (λ some last. omega (arith, ltb-true))
 
-pub returns-in-default·2 : goal.returns-in-default·2
-returns-in-default·2 c = kept c.args.line.now (λ some last. omega (arith, ltb-true))
+pub returns-in_default-2 : goal.returns-in_default-2
+returns-in_default-2 c = kept c.args.line.now (λ some last. omega (arith, ltb-true))

@@ -4,6 +4,6 @@ use Rattle.journal.proofs.words.split_word.Goals as goal
 
 pub returns : goal.returns
 returns c =
-    let front = take_until is_separator c.past-separators-text.result.now in
-    let back = drop_until is_separator c.past-separators-text.result.now in
+    let front = take_until is_separator c.past_separators-text.result.now in
+    let back = drop_until is_separator c.past_separators-text.result.now in
     record { word = cc; rest = cc }

@@ -28,14 +28,14 @@ fitting a j s within is =
 
 pub overflow-mul-whole : goal.overflow-mul-whole
 overflow-mul-whole c =
-    let fits = fitting c.args.award.now c.args.mileage.value.0 c.day-ahead-schedule.result.0 c.args.mileage.within c.day-ahead-schedule.ensures in
+    let fits = fitting c.args.award.now c.args.mileage.value.0 c.day_ahead_schedule.result.0 c.args.mileage.within c.day_ahead_schedule.ensures in
     search rules
 
-pub returns-in-default : goal.returns-in-default
-returns-in-default c =
+pub returns-in_default : goal.returns-in_default
+returns-in_default c =
     let a = c.args.award.now in
     let least = (scheduled a (day_ahead a) refl).0 in
-    let most = c.in-default.ensures.low in
+    let most = c.in_default.ensures.low in
     let nothing : greater a ≡ pos 0 = omega (arith, ints, clamps) in
     search rules
 
@@ -43,7 +43,7 @@ split_shared : (c : In-Some) → Shared c.args.mileage.value.0 (day_ahead c.args
 split_shared c =
     let j = c.args.mileage.value.0 in
     let a = c.args.award.now in
-    let fits = fitting a j c.day-ahead-schedule.result.0 c.args.mileage.within c.day-ahead-schedule.ensures in
+    let fits = fitting a j c.day_ahead_schedule.result.0 c.args.mileage.within c.day_ahead_schedule.ensures in
     let found : quotient (j *ℤ day_ahead a) (greater a) ≡ Some c.in-Some.share = search rules in
     let least = (scheduled a (day_ahead a) refl).0 in
     shared j (day_ahead a) (greater a) c.in-Some.share c.args.mileage.within.0 least (omega (arith, ints, clamps)) found

@@ -5,7 +5,7 @@ use Rattle.nopay.proofs.quarter.no_pay.Goals as goal
 
 pub returns : goal.returns
 returns c =
-    let governing = c.governing-cause-cause.ensures in
+    let governing = c.governing_cause-cause.ensures in
     let told = c.withhold.ensures in
     let is : c.quantity.result.0 ≡ unavailable c.args.award.now.schedule.0 (available c.args.availability.now) c.args.direction = cc in
     record {

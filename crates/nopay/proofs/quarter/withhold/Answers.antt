@@ -10,6 +10,6 @@ pub returns : goal.returns
 returns c =
     let a = c.args.award.now in
     let v = c.args.not_available.0 in
-    let award : to_z w64 (of_z w64 c.min-not-paid.result) ≡ no_pay_award a.day_ahead.0 a.real_time.0 a.disqualified.0 v = search rules in
+    let award : to_z w64 (of_z w64 c.min-not_paid.result) ≡ no_pay_award a.day_ahead.0 a.real_time.0 a.disqualified.0 v = search rules in
     let own : to_z w64 (of_z w64 c.min.result) ≡ no_pay_self_provision a.day_ahead.0 a.self_provision.0 a.real_time.0 a.disqualified.0 v = search rules in
     record { award = award; self_provision = own; cause = refl; withheld = withheld _ _ _ _ _ a.self_provision_within.0 award own }

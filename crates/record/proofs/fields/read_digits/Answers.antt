@@ -6,11 +6,11 @@ use Rattle.record.proofs.fields.read_digits.Goals as goal
 pub loop-d-preserved : goal.loop-d-preserved
 loop-d-preserved c = (grind (arith, drop_more), omega (arith, pow-add 10 c.loop-d.d-index 1, c.in-48-to-57))
 
-pub returns-in-default : goal.returns-in-default
-returns-in-default c = record { value = grind (arith, drop_more); bound = tt }
+pub returns-in_default : goal.returns-in_default
+returns-in_default c = record { value = grind (arith, drop_more); bound = tt }
 
-pub returns-in-default·2 : goal.returns-in-default·2
-returns-in-default·2 c = record { value = grind (arith, drop_more); bound = tt }
+pub returns-in_default-2 : goal.returns-in_default-2
+returns-in_default-2 c = record { value = grind (arith, drop_more); bound = tt }
 
 pub returns : goal.returns
 returns c =

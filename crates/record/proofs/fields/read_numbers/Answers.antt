@@ -3,18 +3,18 @@ use Rattle.std.proofs.lemmas.Result.{err_from_is_err_and}
 use Rattle.record.proofs.Numbers.{read_on, stopped, limited_more, all_read}
 use Rattle.record.proofs.fields.read_numbers.Goals as goal
 
-pub returns-in-err-numbers : goal.returns-in-err-numbers
-returns-in-err-numbers c =
+pub returns-in_err-numbers : goal.returns-in_err-numbers
+returns-in_err-numbers c =
     let lt : c.loop-i.i < length c.args.limits = omega arith in
-    let p = err_from_is_err_and c.from-residual.result c.from-residual.ensures.1 in
-    let e = c.in-err-numbers.ensures.value in
+    let p = err_from_is_err_and c.from_residual.result c.from_residual.ensures.1 in
+    let e = c.in_err-numbers.ensures.value in
     rw (p.1, p.2) (record { value = sym (stopped c.loop-i.i _ c.loop-i.numbers c.args.limits c.args.field.now lt (sym e)) ∙ c.loop-i.invariant.0; within = tt })
 
 pub loop-i-preserved : goal.loop-i-preserved
 loop-i-preserved c =
     let i = c.loop-i.i in
-    let n = c.in-ok-numbers.field-0 in
-    let e = c.in-ok-numbers.ensures in
+    let n = c.in_ok-numbers.field-0 in
+    let e = c.in_ok-numbers.ensures in
     let lt : c.loop-i.i < length c.args.limits = omega arith in
     let room : c.loop-i.i < length c.loop-i.numbers = omega arith in (
       sym (read_on i n c.loop-i.numbers c.args.limits c.args.field.now lt room (sym e.value)) ∙ c.loop-i.invariant.0,

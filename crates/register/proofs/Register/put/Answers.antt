@@ -10,7 +10,7 @@ returns g c =
     let e = c.args.e in
     let laws = held_after w g.met.E.Entry.decides xs e in
     record {
-      answers = c.put-into.ensures.answers;
-      leaves = c.put-into.ensures.leaves;
-      laws = subst (λ r. HeldAfter w e r xs c.put-into.new.places) (sym c.put-into.ensures.answers) (subst (λ ys. HeldAfter w e (put_answer w xs e) xs ys) (sym c.put-into.ensures.leaves) laws);
+      answers = c.put_into.ensures.answers;
+      leaves = c.put_into.ensures.leaves;
+      laws = subst (λ r. HeldAfter w e r xs c.put_into.new.places) (sym c.put_into.ensures.answers) (subst (λ ys. HeldAfter w e (put_answer w xs e) xs ys) (sym c.put_into.ensures.leaves) laws);
     }

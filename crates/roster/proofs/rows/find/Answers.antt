@@ -17,9 +17,9 @@ loop-i-preserved g c =
     let left = name_left g.E.Named.named c.args.row.now c.loop-i.i _ _ c.name.ensures c.index-row-i.is c.loop-i-test.true in
     sym (found_more (text c.args.field.now) c.loop-i.i _ _ _ _ left c.in-Ok.ensures c.if-agrees.false) ∙ c.loop-i.invariant
 
-pub returns-in-default : goal.returns-in-default
-returns-in-default g c =
-    record { value = malformed (text c.args.field.now) _ (map g.E.Named.named c.args.row.now) _ c.in-default.ensures; within = tt }
+pub returns-in_default : goal.returns-in_default
+returns-in_default g c =
+    record { value = malformed (text c.args.field.now) _ (map g.E.Named.named c.args.row.now) _ c.in_default.ensures; within = tt }
 
 pub returns : goal.returns
 returns g c =

@@ -6,15 +6,15 @@ use Rattle.roster.proofs.rows.position.Goals as goal
 pub loop-i-init : goal.loop-i-init
 loop-i-init g c = counted_zero _
 
-pub returns-then-is-same : goal.returns-then-is-same
-returns-then-is-same g c =
+pub returns-then-is_same : goal.returns-then-is_same
+returns-then-is_same g c =
     let left = name_left g.E.Named.named c.args.row.now c.loop-i.i _ _ c.name.ensures c.index-row-i.is c.loop-i-test.true in
-    sym (first_here (bytes_eq c.args.name.now) c.loop-i.i _ _ _ left c.if-is-same.ensures) ∙ c.loop-i.invariant
+    sym (first_here (bytes_eq c.args.name.now) c.loop-i.i _ _ _ left c.if-is_same.ensures) ∙ c.loop-i.invariant
 
 pub loop-i-preserved : goal.loop-i-preserved
 loop-i-preserved g c =
     let left = name_left g.E.Named.named c.args.row.now c.loop-i.i _ _ c.name.ensures c.index-row-i.is c.loop-i-test.true in
-    sym (first_more (bytes_eq c.args.name.now) c.loop-i.i _ _ _ left c.if-is-same.ensures) ∙ c.loop-i.invariant
+    sym (first_more (bytes_eq c.args.name.now) c.loop-i.i _ _ _ left c.if-is_same.ensures) ∙ c.loop-i.invariant
 
 pub returns : goal.returns
 returns g c =

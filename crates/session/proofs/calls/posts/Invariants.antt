@@ -3,5 +3,5 @@ use Rattle.day.specs.Requests.{request_of}
 use Rattle.session.proofs.Postings.{posting_all}
 use Rattle.session.proofs.calls.posts.Given as goal
 
-abbrev pub invariant-loop-record-text : goal.invariant-loop-record-text
-invariant-loop-record-text l = map request_of (vec_items l.calls) ≡ posting_all (take l.record-text-index l.texts)
+abbrev pub invariant-loop-record_text : goal.invariant-loop-record_text
+invariant-loop-record_text l = map request_of (vec_items l.calls) ≡ posting_all (take l.record_text-index l.texts)

@@ -7,7 +7,7 @@ pub returns-in-Member : goal.returns-in-Member
 returns-in-Member c =
     record {
       step = member_step _ _ (vec_items c.args.members.now) (vec_items c.push.new.self) (vec_items c.args.sites.now) _ c.gathered.result
-          c.in-Member.ensures c.push.ensures.items (c.gathered.ensures ∙ ap gathering c.is-ok.ensures.value);
+          c.in-Member.ensures c.push.ensures.items (c.gathered.ensures ∙ ap gathering c.is_ok.ensures.value);
       opened = none_opened _ c.gathered.result _ c.gathered.ensures;
     }
 
@@ -15,6 +15,6 @@ pub returns-in-Site : goal.returns-in-Site
 returns-in-Site c =
     record {
       step = site_step _ _ _ (vec_items c.args.members.now) (vec_items c.args.sites.now) (vec_items c.push-in-Site.new.self) _ c.gathered-in-Site.result
-          c.in-Site.ensures c.argument-member.ensures c.push-in-Site.ensures.items (c.gathered-in-Site.ensures ∙ ap gathering c.is-ok-in-Site.ensures.value);
+          c.in-Site.ensures c.argument-member.ensures c.push-in-Site.ensures.items (c.gathered-in-Site.ensures ∙ ap gathering c.is_ok-in-Site.ensures.value);
       opened = none_opened _ c.gathered-in-Site.result _ c.gathered-in-Site.ensures;
     }

@@ -11,9 +11,9 @@ returns-then-d-gt0 c =
     let above : pos 0 <ℤ d = search rules in
     let fits_n : SFits w64 n = c.ranges.n in
     let fits_d : SFits w64 d = c.ranges.d in
-    let fits_q : SFits w64 c.div-euclid.result = search rules in
-    let told : c.div-euclid.result ≡ int_div_euclid n d = simp to_z-of_z at c.div-euclid.ensures in
-    let is : to_z w64 (of_z w64 c.div-euclid.result) ≡ int_div_euclid n d = to_z-of_z w64 c.div-euclid.result fits_q ∙ told in
+    let fits_q : SFits w64 c.div_euclid.result = search rules in
+    let told : c.div_euclid.result ≡ int_div_euclid n d = simp to_z-of_z at c.div_euclid.ensures in
+    let is : to_z w64 (of_z w64 c.div_euclid.result) ≡ int_div_euclid n d = to_z-of_z w64 c.div_euclid.result fits_q ∙ told in
     record {
       value = ap Some is ∙ value n d above;
       low = subst (λ (q : ℤ). (d *ℤ q) ≤ℤ n) (sym is) (low n d above);

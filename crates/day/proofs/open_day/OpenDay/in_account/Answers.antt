@@ -13,5 +13,5 @@ pub returns-in-PassThrough : goal.returns-in-PassThrough
 returns-in-PassThrough c =
     let f : Posting → ℤ = λ p. all_cents (said p).terms in
     c.neg.ensures
-    ∙ ap neg_ℤ (c.sum-bills.ensures.value ∙ ap (sum_held f) c.entries.ensures.value ∙ sum_view said shape (λ s. all_cents s.terms) (places_in c.args.self.now.records))
+    ∙ ap neg_ℤ (c.sum_bills.ensures.value ∙ ap (sum_held f) c.entries.ensures.value ∙ sum_view said shape (λ s. all_cents s.terms) (places_in c.args.self.now.records))
     ∙ sym (ap (account_of (state_of c.args.self.now)) c.in-PassThrough.is)

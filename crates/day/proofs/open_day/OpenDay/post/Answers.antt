@@ -9,8 +9,8 @@ returns-in-Ok c =
     let day = c.args.self.now in
     let roster = roster_of day.roster in
     let xs = places_in day.records in
-    let p = c.in-ok-posting.posting in
-    let read = c.in-ok-posting.ensures in
+    let p = c.in_ok-posting.posting in
+    let read = c.in_ok-posting.ensures in
     record {
       answers = answers roster xs p c.args.bytes.now read (Ok _) c.in-Ok.ensures.answers;
       leaves = leaves roster xs p c.args.bytes.now read (places_in c.put.new.self) c.put.ensures.leaves;
@@ -21,8 +21,8 @@ returns-in-Err c =
     let day = c.args.self.now in
     let roster = roster_of day.roster in
     let xs = places_in day.records in
-    let p = c.in-ok-posting.posting in
-    let read = c.in-ok-posting.ensures in
+    let p = c.in_ok-posting.posting in
+    let read = c.in_ok-posting.ensures in
     record {
       answers = answers roster xs p c.args.bytes.now read (Err c.in-Err.refusal) c.in-Err.ensures.answers;
       leaves = leaves roster xs p c.args.bytes.now read (places_in c.put.new.self) c.put.ensures.leaves;

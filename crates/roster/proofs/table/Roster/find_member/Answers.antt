@@ -9,8 +9,8 @@ pub returns : goal.returns
 returns c =
     let row = c.args.self.now.members.now in
     let fit : length row ≤ 16 = search rules in
-    let below = c.in-ok-i.ensures.within in
+    let below = c.in_ok-i.ensures.within in
     record {
-      value = index_value (λ (i : MemberIndex). i.value) 16 (length row) c.in-ok-i.i below fit c.new.result _ c.new.ensures c.in-ok-i.ensures.value;
-      within = index_within (λ (i : MemberIndex). i.value) 16 (length row) c.in-ok-i.i below fit c.new.result _ c.new.ensures (length-map row (λ (m : Member). m.name.now));
+      value = index_value (λ (i : MemberIndex). i.value) 16 (length row) c.in_ok-i.i below fit c.new.result _ c.new.ensures c.in_ok-i.ensures.value;
+      within = index_within (λ (i : MemberIndex). i.value) 16 (length row) c.in_ok-i.i below fit c.new.result _ c.new.ensures (length-map row (λ (m : Member). m.name.now));
     }

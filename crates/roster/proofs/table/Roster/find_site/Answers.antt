@@ -11,18 +11,18 @@ pub returns : goal.returns
 returns c =
     let row = c.args.self.now.sites.now in
     let fit : length row ≤ 32 = search rules in
-    let below = c.in-ok-i.ensures.within in
-    let found_there = c.in-ok-i.ensures.value ∙ ap (found (text c.args.field.now)) (sym (site_names_of row)) in
+    let below = c.in_ok-i.ensures.within in
+    let found_there = c.in_ok-i.ensures.value ∙ ap (found (text c.args.field.now)) (sym (site_names_of row)) in
     record {
-      value = index_value (λ (i : SiteIndex). i.value) 32 (length row) c.in-ok-i.i below fit c.new.result _ c.new.ensures found_there;
-      within = index_within (λ (i : SiteIndex). i.value) 32 (length row) c.in-ok-i.i below fit c.new.result _ c.new.ensures (length-map row line_of);
+      value = index_value (λ (i : SiteIndex). i.value) 32 (length row) c.in_ok-i.i below fit c.new.result _ c.new.ensures found_there;
+      within = index_within (λ (i : SiteIndex). i.value) 32 (length row) c.in_ok-i.i below fit c.new.result _ c.new.ensures (length-map row line_of);
     }
 
-pub returns-in-err-i : goal.returns-in-err-i
-returns-in-err-i c =
+pub returns-in_err-i : goal.returns-in_err-i
+returns-in_err-i c =
     let row = c.args.self.now.sites.now in
-    let found_nowhere = c.in-err-i.ensures.value ∙ ap (found (text c.args.field.now)) (sym (site_names_of row)) in
+    let found_nowhere = c.in_err-i.ensures.value ∙ ap (found (text c.args.field.now)) (sym (site_names_of row)) in
     record {
-      value = no_index_value (λ (i : SiteIndex). i.value) c.from-residual.result _ c.from-residual.ensures found_nowhere;
-      within = no_index_within _ c.from-residual.result c.from-residual.ensures;
+      value = no_index_value (λ (i : SiteIndex). i.value) c.from_residual.result _ c.from_residual.ensures found_nowhere;
+      within = no_index_within _ c.from_residual.result c.from_residual.ensures;
     }
