@@ -1,10 +1,7 @@
 -- The limits of posted numbers. Assumes nothing.
 use Rattle.std.specs.Prelude.{ℕ, ◌<◌, ◌≤◌, List, ℤ, pos, ◌≤ℤ◌, slice_index, slice_index_or}
 use Rattle.units.specs.declared.quantity.CentsPerMw.{CentsPerMw}
-
--- at least 0 and at most the limit
-abbrev pub Within : ℕ → ℤ → Type 0
-Within limit z = (pos 0 ≤ℤ z) × (z ≤ℤ pos limit)
+pub use Rattle.units.specs.Bounds.{Within}
 
 -- the price of a quarter
 abbrev pub price_at : List CentsPerMw → ℕ → ℤ

@@ -13,6 +13,7 @@ use Rattle.postings.specs.declared.posting.Content.TheVariants.{Award, Mileage, 
 use Rattle.postings.specs.declared.posting.Posting.{Posting}
 use Rattle.postings.specs.declared.posting.Key.{Key}
 use Rattle.postings.specs.Limits.{price_at}
+pub use Rattle.units.specs.Directions.{direction_number}
 
 -- what is posted, by kind, with its numbers; a version is not part of it
 pub data Terms : Type 0 where
@@ -64,10 +65,6 @@ kind_number MIL = 1
 kind_number CAP = 2
 kind_number OBL = 3
 kind_number BIL = 4
-
-abbrev pub direction_number : Direction → ℕ
-direction_number Up = 0
-direction_number Down = 1
 
 -- whether two keys are equal, part by part
 abbrev pub same_key : Key → Key → Bool

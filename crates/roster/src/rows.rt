@@ -16,7 +16,7 @@ fn is_same(a: &[u8], b: &[u8]) -> bool
 
 // The index of the entry with this name.
 fn position<E: Named>(row: &[E], name: &[u8]) -> Option<usize>
-    ensures { result ≡ position_of name.now (map named row.now) }
+    ensures { result ≡ position_of name.now (map E.named row.now) }
 {
     for (i, entry) in row.iter().enumerate() {
         if is_same(name, entry.name()) {
@@ -28,7 +28,7 @@ fn position<E: Named>(row: &[E], name: &[u8]) -> Option<usize>
 
 // The index of the entry whose name is the text of the field.
 pub(crate) fn find<E: Named>(row: &[E], field: &[u8]) -> Option<usize>
-    ensures value { result ≡ found (text field.now) (map named row.now) }
+    ensures value { result ≡ found (text field.now) (map E.named row.now) }
     ensures within { IfSome result (λ i. i < length row.now) }
 {
     for (i, entry) in row.iter().enumerate() {
@@ -44,14 +44,14 @@ pub(crate) fn find<E: Named>(row: &[E], field: &[u8]) -> Option<usize>
 
 // Whether a name is not well-formed, or equals the name of one of these entries.
 fn is_wrong<E: Named>(earlier: &[E], name: &[u8]) -> bool
-    ensures { result ≡ wrong (map named earlier.now) name.now }
+    ensures { result ≡ wrong (map E.named earlier.now) name.now }
 {
     !is_well_formed(name) || position(earlier, name).is_some()
 }
 
 // The index of the first name that is not well-formed or equals an earlier one.
 pub(crate) fn wrong_name<E: Named>(row: &[E]) -> Option<usize>
-    ensures value { result ≡ wrong_name (map named row.now) }
+    ensures value { result ≡ wrong_name (map E.named row.now) }
     ensures within { IfSome result (λ i. i < length row.now) }
 {
     for (i, entry) in row.iter().enumerate() {

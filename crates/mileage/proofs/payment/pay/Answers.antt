@@ -17,8 +17,8 @@ both_paid c =
     let sum = parts_high _ (a.day_ahead.0 +ℤ a.self_provision.0) greater _ _ mileage.within.0 told.day_ahead told.real_time in
     payments _ _ _ _ _ _ _ _ parts.day_ahead_low parts.real_time_low sum mileage.within prices.day_ahead_within (prices.real_time_within _ c.args.quarter.within) c.args.accuracy.within c.paid.ensures c.paid-2.ensures
 
-pub invariant-of-result : goal.invariant-of-result
-invariant-of-result c = let known = both_paid c in search rules
+pub invariant_of-result : goal.invariant_of-result
+invariant_of-result c = let known = both_paid c in search rules
 
 pub returns : goal.returns
 returns c = record { day_ahead = search rules; real_time = search rules; together = (both_paid (goal.at.returns c).After-paid-2).together }

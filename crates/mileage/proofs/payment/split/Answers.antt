@@ -51,8 +51,8 @@ split_shared c =
 pub overflow-sub-result : goal.overflow-sub-result
 overflow-sub-result c = let known = split_shared c in search rules
 
-pub invariant-of-result-2 : goal.invariant-of-result-2
-invariant-of-result-2 c = let known = split_shared c in search rules
+pub invariant_of-result-2 : goal.invariant_of-result-2
+invariant_of-result-2 c = let known = split_shared c in search rules
 
 pub returns : goal.returns
 returns c = let known = split_shared (goal.at.returns c).In-Some in search rules

@@ -3,8 +3,8 @@ use Rattle.nopay.specs.NoPay.{no_pay_award, no_pay_self_provision}
 use Rattle.nopay.proofs.Withholding.{withheld}
 use Rattle.nopay.proofs.quarter.withhold.Goals as goal
 
-pub invariant-of-result : goal.invariant-of-result
-invariant-of-result c = let own = c.args.award.now.self_provision_within in search rules
+pub invariant_of-result : goal.invariant_of-result
+invariant_of-result c = let own = c.args.award.now.self_provision_within in search rules
 
 pub returns : goal.returns
 returns c =

@@ -8,8 +8,8 @@ use Rattle.postings.specs.Postings.{posting_shape, said, shape}
 use Rattle.day.specs.Days.{State}
 use Rattle.day.proofs.open_day.OpenDay.open.Goals as goal
 
-pub invariant-of-result : goal.invariant-of-result
-invariant-of-result c = (ap (distinct posting_shape) c.new-records.ensures ∙ distinct_fresh posting_shape (length c.args.places.now), tt)
+pub invariant_of-result : goal.invariant_of-result
+invariant_of-result c = (ap (distinct posting_shape) c.new-records.ensures ∙ distinct_fresh posting_shape (length c.args.places.now), tt)
 
 pub returns : goal.returns
 returns c =
