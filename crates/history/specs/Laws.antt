@@ -14,11 +14,7 @@ use Rattle.day.specs.Requests.{Request, post, balance, account}
 use Rattle.day.specs.Answers.{answer, cents}
 use Rattle.history.specs.Runs.{Opening, Event, Run}
 use Rattle.history.specs.Events.{records_taken, record_held, bills_of, all_bills}
-
--- both or neither
-pub record ExactlyWhen (A B : Type 0) : Type 0 where
-  pub only : A → B
-  pub whenever : B → A
+pub use Rattle.units.specs.Exactly.{ExactlyWhen}
 
 -- A record that reads well is taken exactly when every earlier one taken under its key has a lower version and, if there is none, fewer keys than
 -- places were taken.

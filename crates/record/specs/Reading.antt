@@ -12,15 +12,11 @@ use Rattle.postings.specs.declared.posting.Kind.TheVariants.{Award, Mileage, Cap
 use Rattle.postings.specs.declared.posting.Side.{Side}
 use Rattle.postings.specs.declared.posting.Side.TheVariants.{Charge, Credit}
 use Rattle.postings.specs.Postings.{Terms, award, mileage, capacity, obligation, bill, Said}
+pub use Rattle.refusal.specs.Checks.{then}
 
 -- the bytes from a place on, so many of them
 abbrev pub field : ℕ → ℕ → List ℕ → List ℕ
 field from count xs = take count (drop from xs)
-
--- what follows, unless this was turned back
-abbrev pub then : {A B : Type 0} → Result A Refusal → (A → Result B Refusal) → Result B Refusal
-then (Ok x) next = next x
-then (Err e) next = Err e
 
 -- 64 bytes, a newline last
 abbrev pub framed : List ℕ → Bool
