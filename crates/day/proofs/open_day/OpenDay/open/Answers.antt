@@ -9,7 +9,7 @@ use Rattle.day.specs.Days.{State}
 use Rattle.day.proofs.open_day.OpenDay.open.Goals as goal
 
 pub invariant_of-result : goal.invariant_of-result
-invariant_of-result c = (ap (distinct posting_shape) c.new-records.ensures ∙ distinct_fresh posting_shape (length c.args.places.now), tt)
+invariant_of-result c = record { keys = ap (distinct posting_shape) c.new-records.ensures ∙ distinct_fresh posting_shape (length c.args.places.now) }
 
 pub returns : goal.returns
 returns c =
