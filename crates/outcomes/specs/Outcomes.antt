@@ -3,7 +3,7 @@ use Rattle.std.specs.Prelude.{ℕ, ◌+◌, ◌-◌, ◌^◌, min, List, [], ◌
 use Rattle.std.specs.Fmt.{signed_decimal}
 use Rattle.refusal.specs.Refusals.{number_of, layer_of, place_of}
 use Rattle.refusal.specs.declared.Refusal.{Refusal}
-use Rattle.refusal.specs.declared.Refusal.TheVariants.{MemberCount, SiteCount, SiteWithoutMember, BadName, RecordLength, UnknownKind, UnknownDirection, WrongHour, WrongVersion, MalformedName, UnknownName, WrongNumber, VersionNotHigher, RegisterFull, WrongArgument}
+use Rattle.refusal.specs.declared.Refusal.TheVariants.{MemberCount, SiteCount, SiteWithoutMember, BadName, RecordLength, UnknownKind, UnknownDirection, WrongHour, WrongVersion, MalformedName, UnknownName, WrongNumber, VersionNotHigher, RegisterFull, WrongPostingArgument, SignalLength, WrongSample, WatchLength, WrongMinute, WrongArgument, NotPosted}
 use Rattle.refusal.specs.declared.Layer.{Layer}
 use Rattle.refusal.specs.declared.Layer.TheVariants.{Record as RecordLayer, Register as RegisterLayer, Day as DayLayer}
 use Rattle.outcomes.specs.declared.outcome.Reason.{Reason}
@@ -45,7 +45,13 @@ explanation UnknownName = codes "the name is not on the roster"
 explanation (WrongNumber i) = codes "the number has not six digits or is past its limit"
 explanation (VersionNotHigher d) = codes "a version as high is held, or the bill is"
 explanation RegisterFull = codes "every place is taken"
+explanation (WrongPostingArgument i) = codes "the argument of the posting is out of range"
+explanation SignalLength = codes "a signal quarter has 1800 bytes"
+explanation (WrongSample i) = codes "the sample is out of limits"
+explanation WatchLength = codes "a watch quarter has 420 bytes"
+explanation (WrongMinute i) = codes "the minute is bad"
 explanation (WrongArgument i) = codes "the argument is out of range"
+explanation NotPosted = codes "the award or the watch quarter is not posted"
 
 abbrev pub outcome_text : Outcome → List ℕ
 outcome_text Taken = codes "taken"

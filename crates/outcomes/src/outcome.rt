@@ -82,7 +82,13 @@ fn explained(refusal: Refusal) -> &'static str
         Refusal::WrongNumber(_) => "the number has not six digits or is past its limit",
         Refusal::VersionNotHigher(_) => "a version as high is held, or the bill is",
         Refusal::RegisterFull => "every place is taken",
+        Refusal::WrongPostingArgument(_) => "the argument of the posting is out of range",
+        Refusal::SignalLength => "a signal quarter has 1800 bytes",
+        Refusal::WrongSample(_) => "the sample is out of limits",
+        Refusal::WatchLength => "a watch quarter has 420 bytes",
+        Refusal::WrongMinute(_) => "the minute is bad",
         Refusal::WrongArgument(_) => "the argument is out of range",
+        Refusal::NotPosted => "the award or the watch quarter is not posted",
     }
 }
 

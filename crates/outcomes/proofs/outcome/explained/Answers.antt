@@ -32,5 +32,23 @@ returns-in-UnknownName c = sym (ap explanation c.in-UnknownName.is)
 pub returns-in-WrongNumber : goal.returns-in-WrongNumber
 returns-in-WrongNumber c = sym (ap explanation c.in-WrongNumber.is)
 
+pub returns-in-WrongPostingArgument : goal.returns-in-WrongPostingArgument
+returns-in-WrongPostingArgument c = sym (ap explanation c.in-WrongPostingArgument.is)
+
+pub returns-in-SignalLength : goal.returns-in-SignalLength
+returns-in-SignalLength c = sym (ap explanation c.in-SignalLength.is)
+
+pub returns-in-WrongSample : goal.returns-in-WrongSample
+returns-in-WrongSample c = sym (ap explanation c.in-WrongSample.is)
+
+pub returns-in-WatchLength : goal.returns-in-WatchLength
+returns-in-WatchLength c = sym (ap explanation c.in-WatchLength.is)
+
+pub returns-in-WrongMinute : goal.returns-in-WrongMinute
+returns-in-WrongMinute c = sym (ap explanation c.in-WrongMinute.is)
+
 pub returns-in-WrongArgument : goal.returns-in-WrongArgument
 returns-in-WrongArgument c = sym (ap explanation c.in-WrongArgument.is)
+
+pub returns-in-NotPosted : goal.returns-in-NotPosted
+returns-in-NotPosted c = sym (ap explanation c.in-NotPosted.is)
