@@ -1,5 +1,5 @@
 -- Where the first line of a text ends. Assumes nothing.
-use Rattle.std.proofs.Common.{◌≡◌, ℕ, suc, ◌+◌, ◌-◌, ◌<◌, ◌≤◌, Bool, true, false, cond, ◌&&◌, ◌||◌, eqb, List, [], ◌∷◌, ◌++◌, map, length, get_or, take, drop, sym, refl, ap, ◌∙◌, append_assoc, append-nil, add-one, arith, MutBor}
+use Rattle.std.proofs.Common.{◌≡◌, ℕ, suc, ◌+◌, ◌-◌, ◌<◌, ◌≤◌, Bool, true, false, cond, ◌&&◌, ◌||◌, eqb, List, [], ◌∷◌, ◌++◌, map, length, get_or, take, drop, sym, refl, ap, ◌∙◌, append_assoc, append-nil, add-one, arith, Bor}
 use mathlib.Core.List.{map-append}
 use Rattle.std.proofs.lemmas.Bool.{eq-eqb, ne_eqb, cond-true, cond-false}
 use Rattle.journal.specs.Bytes.{until, from}
@@ -96,7 +96,7 @@ records_first (b ∷ x ∷ bs) h = by (eqb b 10) (records_first (x ∷ bs) (omeg
     by false e = ap (in_front b) e
 
 -- one record more
-pub records_more : (x : MutBor (List ℕ)) (before after : List (MutBor (List ℕ))) (rest next : List ℕ) (all : List (List ℕ)) →
+pub records_more : (x : Bor (List ℕ)) (before after : List (Bor (List ℕ))) (rest next : List ℕ) (all : List (List ℕ)) →
     after ≡ before ++ x ∷ [] → x.now ≡ record_of rest → next ≡ after_line rest → 0 < length rest →
     map (λ r. r.now) before ++ records_of rest ≡ all → map (λ r. r.now) after ++ records_of next ≡ all
 records_more x before after rest next all pushed first follows some h =
