@@ -12,7 +12,7 @@ use std::{env, fs};
 
 fn run_journal(rt: &HostRuntime, path: &str) -> anyhow::Result<()> {
     let text = fs::read(rt, path)?;
-    let mut output = Output::new(rt);
+    let mut output = Output::new(rt)?;
     run(rt, path, text.as_slice(), &mut output)?;
     output.finish()?;
     Ok(())

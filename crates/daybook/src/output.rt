@@ -14,12 +14,13 @@ pub struct Output {
 }
 
 impl Output {
-    pub fn new(rt: &HostRuntime) -> Output {
-        Output {
-            heap: rt.alloc(),
-            writer: BufWriter::new(rt.stdout()),
+    pub fn new(rt: &HostRuntime) -> io::Result<Output> {
+        let heap = rt.alloc();
+        Ok(Output {
+            heap,
+            writer: BufWriter::new(heap, rt.stdout())?,
             tally: Tally::new(),
-        }
+        })
     }
 
     pub fn print(&mut self, label: Label, word: &[u8], outcome: Outcome) -> io::Result<()> {
