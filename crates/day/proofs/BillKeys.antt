@@ -1,5 +1,5 @@
 -- The keys of bills: there are 16 × 2 × 24 × 999 of them. Assumes nothing.
-use Rattle.std.proofs.Common.{◌≡◌, ℕ, zero, suc, ◌+◌, ◌-◌, ◌*◌, ◌/◌, ◌%◌, ◌<◌, ◌≤◌, Bool, true, false, cond, ◌⊎◌, ℤ, pos, sym, refl, ap, ◌∙◌, ap₂, inl, inr, arith}
+use Rattle.std.proofs.Common.{◌≡◌, ℕ, zero, suc, ◌+◌, ◌-◌, ◌*◌, ◌/◌, ◌%◌, ◌<◌, ◌≤◌, ◌⊎◌, pos, refl, ap, ◌∙◌, inl, inr, arith}
 use Rattle.units.specs.declared.bounds.Direction.{Direction}
 use Rattle.units.specs.declared.bounds.Direction.TheVariants.{Up, Down}
 use Rattle.postings.specs.declared.posting.Kind.TheVariants.{Bill as BIL}

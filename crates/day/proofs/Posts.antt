@@ -1,5 +1,5 @@
 -- A posting put into the register is a record posted to the day. Assumes nothing.
-use Rattle.std.proofs.Common.{◌≡◌, ℕ, List, Ok, Err, Option, Result, sym, refl, ap, ◌∙◌}
+use Rattle.std.proofs.Common.{◌≡◌, ℕ, List, Ok, Option, Result, sym, ap, ◌∙◌}
 use Rattle.refusal.specs.declared.Refusal.{Refusal}
 use Rattle.register.specs.Registers.{put_answer, put}
 use Rattle.register.specs.Views.{views, view_answer}

@@ -1,19 +1,19 @@
 -- The sum of the bills held fits, however many places there are. Assumes nothing.
-use Rattle.std.proofs.Common.{◌≡◌, ℕ, zero, suc, ◌+◌, ◌*◌, ◌^◌, ◌≤◌, Bool, true, false, cond, eqb, List, [], ◌∷◌, drop, ℤ, pos, negsuc, ◌+ℤ◌, neg_ℤ, nat_abs, Some, None, Option, sym, refl, ap, ◌∙◌, subst, le_trans, arith, w64, SFits}
+use Rattle.std.proofs.Common.{◌≡◌, ℕ, zero, suc, ◌+◌, ◌*◌, ◌^◌, ◌≤◌, Bool, true, false, cond, eqb, List, [], ◌∷◌, drop, ℤ, pos, negsuc, ◌+ℤ◌, neg_ℤ, nat_abs, Some, None, Option, le_trans, arith, w64, SFits}
 use Rattle.std.proofs.lemmas.Int.{ints}
-use Rattle.register.specs.Registers.{distinct, sum_held, Each, Space}
+use Rattle.register.specs.Registers.{distinct, sum_held, Each}
 use Rattle.register.proofs.Laws.{first_apart}
 use Rattle.register.proofs.Sums.{bounded}
 use Rattle.postings.specs.declared.posting.Posting.{Posting}
 use Rattle.postings.specs.declared.posting.Content.{Content}
 use Rattle.postings.specs.declared.posting.Content.TheVariants.{Award, Mileage, Capacity, Obligation, Bill}
-use Rattle.postings.specs.Postings.{Terms, said, terms_of, signed, posting_shape}
+use Rattle.postings.specs.Postings.{said, terms_of, signed, posting_shape}
 use Rattle.postings.proofs.Bills.{signed_within}
 use Rattle.postings.specs.Keys.{decides}
 use Rattle.day.specs.declared.sums.Billed.{Billed}
 use Rattle.day.specs.declared.sums.Billed.TheVariants.{Member, Everyone}
-use Rattle.day.specs.Bills.{bill_cents, all_cents, cents_for}
-use Rattle.day.proofs.BillKeys.{bill_key, key_index, back, Bounded, BoundedBill, covered}
+use Rattle.day.specs.Bills.{cents_for}
+use Rattle.day.proofs.BillKeys.{bill_key, key_index, back, BoundedBill, covered}
 
 -- ---- what the types of postings keep
 posting_bounded : (p : Posting) → BoundedBill p.hour.value (terms_of p.content)

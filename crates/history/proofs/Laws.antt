@@ -1,5 +1,5 @@
 -- The laws over runs. Assumes nothing.
-use Rattle.std.proofs.Common.{◌≡◌, ℕ, zero, suc, ◌<◌, ◌≤◌, Bool, true, false, cond, eqb, ltb, ◌⊎◌, List, [], ◌∷◌, length, ℤ, pos, ◌+ℤ◌, neg_ℤ, Some, None, Ok, Err, Option, Result, sym, refl, ap, ◌∙◌, subst, ap₂, arith, le-ltb, lt-ltb, eq-eqb, ne_eqb}
+use Rattle.std.proofs.Common.{◌≡◌, ℕ, zero, suc, ◌<◌, ◌≤◌, cond, eqb, ltb, List, [], ◌∷◌, length, ℤ, pos, ◌+ℤ◌, neg_ℤ, Some, None, Ok, Err, Option, Result, sym, refl, ap, ◌∙◌, subst, ap₂, arith, le-ltb, lt-ltb, eq-eqb, ne_eqb}
 use native.Mathlib.Decide.{ℕ_discrete}
 use lib.IntN.{+ℤ_idl, +ℤ_idr}
 use Rattle.std.proofs.lemmas.Bool.Decides.{nat_tests}
@@ -7,13 +7,12 @@ use Rattle.std.proofs.lemmas.Int.{ints}
 use Rattle.std.specs.Option.{option_map}
 use Rattle.refusal.specs.declared.Refusal.{Refusal}
 use Rattle.refusal.specs.declared.Refusal.TheVariants.{WrongArgument}
-use Rattle.register.specs.Registers.{look, put_answer, value_of, sum_held, sum_over, Each, Space}
-use Rattle.register.specs.Taken.{latest, keys, Admitted, sum_taken}
-use Rattle.register.proofs.Taken.{Holding, admitted, taken, lower_last, lower_none}
+use Rattle.register.specs.Registers.{look, put_answer, value_of, sum_held, sum_over, Each}
+use Rattle.register.specs.Taken.{latest, Admitted}
+use Rattle.register.proofs.Taken.{admitted, taken, lower_last, lower_none}
 use Rattle.register.proofs.Sums.{interchange, by_key, over_alike}
 use Rattle.roster.specs.Rosters.{Lines}
 use Rattle.roster.proofs.Openings.{few_members}
-use Rattle.postings.specs.declared.posting.Side.{Side}
 use Rattle.postings.specs.declared.posting.Key.{Key}
 use Rattle.postings.specs.Postings.{Terms, award, mileage, capacity, obligation, bill, Said, key_of, shape, signed}
 use Rattle.record.specs.Reading.{reading}
@@ -28,12 +27,12 @@ use Rattle.day.specs.declared.calls.Answer.TheVariants.{Taken, Figure, Refused}
 use Rattle.day.specs.Accounts.{account_at}
 use Rattle.day.specs.Bills.{bill_cents, all_cents, cents_for}
 use Rattle.day.specs.Days.{State}
-use Rattle.day.specs.Requests.{Request, post, balance, account}
-use Rattle.day.specs.Answers.{answer, post_answer_by, put_result, taken_answer, figure_answer, cents, balance_of, account_of, account_answer_by}
+use Rattle.day.specs.Requests.{post, balance, account}
+use Rattle.day.specs.Answers.{answer, post_answer_by, put_result, taken_answer, figure_answer, cents, balance_of, account_answer_by}
 use Rattle.day.proofs.BillKeys.{bill_key, key_index, back, BoundedBill, covered}
-use Rattle.history.specs.Runs.{Opening, Event, Run}
-use Rattle.history.specs.Events.{records_taken, record_held, bills_of, all_bills}
-use Rattle.history.specs.Laws.{ExactlyWhen, TakenExactlyWhen, BillTakenExactlyWhen, FiguresOf, BalancesAreBills, sum_below, figure_in, AddsUpToZero, FiguresDependOnHoldingsAlone}
+use Rattle.history.specs.Runs.{Opening}
+use Rattle.history.specs.Events.{records_taken}
+use Rattle.history.specs.Laws.{TakenExactlyWhen, BillTakenExactlyWhen, BalancesAreBills, sum_below, figure_in, AddsUpToZero, FiguresDependOnHoldingsAlone}
 use Rattle.history.proofs.Keeps.{adds, Kept, kept}
 
 refused_taken : {X : Type 0} (refusal : Refusal) → ◌≡◌ {A = Answer} (Refused refusal) Taken → X

@@ -1,6 +1,6 @@
 -- The laws that hold after every event of every run. Assumes nothing.
-use Rattle.std.specs.Prelude.{◌≡◌, ℕ, zero, suc, ◌<◌, List, [], ◌∷◌, length, ℤ, pos, ◌+ℤ◌, neg_ℤ, None, Ok}
-use Rattle.register.specs.Taken.{latest, keys, AllLower, Admitted}
+use Rattle.std.specs.Prelude.{◌≡◌, ℕ, zero, suc, ◌<◌, List, length, ℤ, pos, ◌+ℤ◌, neg_ℤ, None, Ok}
+use Rattle.register.specs.Taken.{latest, keys, Admitted}
 use Rattle.postings.specs.declared.posting.Side.{Side}
 use Rattle.postings.specs.declared.posting.Key.{Key}
 use Rattle.postings.specs.Postings.{Said, bill, key_of, shape}
@@ -10,7 +10,7 @@ use Rattle.day.specs.declared.calls.Answer.{Answer}
 use Rattle.day.specs.declared.calls.Answer.TheVariants.{Taken, Figure, Refused}
 use Rattle.day.specs.Accounts.{account_number}
 use Rattle.day.specs.Days.{State}
-use Rattle.day.specs.Requests.{Request, post, balance, account}
+use Rattle.day.specs.Requests.{post, balance, account}
 use Rattle.day.specs.Answers.{answer, cents}
 use Rattle.history.specs.Runs.{Opening, Event, Run}
 use Rattle.history.specs.Events.{records_taken, record_held, bills_of, all_bills}

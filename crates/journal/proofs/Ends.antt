@@ -3,7 +3,7 @@ use Rattle.std.proofs.Common.{◌≡◌, ℕ, suc, ◌+◌, ◌-◌, ◌<◌, �
 use mathlib.Core.List.{map-append}
 use Rattle.std.proofs.lemmas.Bool.{eq-eqb, ne_eqb, cond-true, cond-false}
 use Rattle.journal.specs.Bytes.{until, from}
-use Rattle.journal.specs.Lines.{is_newline, at_newline, at_line_end, line_of, after_line, record_of, records_of, in_front, without_return}
+use Rattle.journal.specs.Lines.{is_newline, at_newline, line_of, after_line, record_of, records_of, in_front, without_return}
 
 -- without a newline the line is all of the text
 pub unended : (bs : List ℕ) → length (from is_newline bs) ≡ 0 → (until is_newline bs ≡ line_of bs) × (from is_newline bs ≡ after_line bs)

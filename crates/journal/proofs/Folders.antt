@@ -1,10 +1,10 @@
 -- The folder of a path. Assumes nothing.
-use Rattle.std.proofs.Common.{◌≡◌, ℕ, ◌+◌, ◌-◌, ◌<◌, ◌≤◌, Bool, true, false, cond, not, eqb, List, [], ◌∷◌, ◌++◌, length, get_or, take, sym, refl, ap, ◌∙◌, arith}
+use Rattle.std.proofs.Common.{◌≡◌, ℕ, ◌-◌, ◌<◌, not, List, [], ◌∷◌, ◌++◌, length, get_or, take, sym, refl, ap, ◌∙◌, arith}
 use Rattle.std.specs.List.{suffix_len}
 use Rattle.std.proofs.lemmas.List.{take_all, take-take, length-take-le}
 use Rattle.std.proofs.lemmas.List.Sums.{suffix_len-take_yes, suffix_len-take_no, suffix_len-le-length}
 use Rattle.std.proofs.lemmas.Bool.{eq-eqb, ne_eqb, cond-true, cond-false}
-use Rattle.journal.specs.Paths.{is_slash, folder_of, absolute, path_from}
+use Rattle.journal.specs.Paths.{is_slash, folder_of, path_from}
 
 -- a last byte that is no slash does not belong to the folder
 pub folder_shorter : (xs : List ℕ) → 0 < length xs → (get_or xs (length xs - 1) 0 ≡ 47 → ⊥) → folder_of (take (length xs - 1) xs) ≡ folder_of xs

@@ -1,5 +1,5 @@
 -- Lines of a journal and records of a file. Assumes nothing.
-use Rattle.std.specs.Prelude.{ℕ, suc, Bool, true, false, cond, ◌&&◌, ◌||◌, List, [], ◌∷◌, ◌==◌}
+use Rattle.std.specs.Prelude.{ℕ, Bool, false, cond, ◌&&◌, ◌||◌, List, [], ◌∷◌, ◌==◌}
 
 abbrev pub is_newline : ℕ → Bool
 is_newline b = b == 10

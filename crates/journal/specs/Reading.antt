@@ -1,5 +1,5 @@
 -- What a line of a journal asks for. Assumes nothing.
-use Rattle.std.specs.Prelude.{ℕ, Bool, true, false, cond, List, [], ◌∷◌, length, Some, None, Ok, Err, codes, Option, Result, ◌==◌}
+use Rattle.std.specs.Prelude.{ℕ, Bool, false, cond, List, [], ◌∷◌, length, Some, None, Ok, Err, codes, Option, Result, ◌==◌}
 use Rattle.std.specs.Str.{bytes_eq}
 use Rattle.journal.specs.Words.{word_of, after_word, number_of}
 use Rattle.outcomes.specs.declared.outcome.Reason.{Reason}

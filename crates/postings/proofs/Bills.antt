@@ -1,5 +1,5 @@
 -- How far a bill moves a balance. Assumes nothing.
-use Rattle.std.proofs.Common.{ℕ, ◌≤◌, ℤ, pos, negsuc, nat_abs, arith}
+use Rattle.std.proofs.Common.{ℕ, ◌≤◌, ℤ, nat_abs, arith}
 use Rattle.std.proofs.lemmas.Int.{ints}
 use Rattle.postings.specs.declared.posting.Side.{Side}
 use Rattle.postings.specs.declared.posting.Side.TheVariants.{Charge, Credit}

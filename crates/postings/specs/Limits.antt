@@ -1,5 +1,5 @@
 -- The limits of posted numbers. Assumes nothing.
-use Rattle.std.specs.Prelude.{ℕ, ◌<◌, ◌≤◌, List, ℤ, pos, ◌≤ℤ◌, slice_index, slice_index_or}
+use Rattle.std.specs.Prelude.{ℕ, ◌<◌, ◌≤◌, List, ℤ, pos, slice_index, slice_index_or}
 use Rattle.units.specs.declared.quantity.CentsPerMw.{CentsPerMw}
 pub use Rattle.units.specs.Bounds.{Within}
 

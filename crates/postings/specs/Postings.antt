@@ -3,7 +3,6 @@ use Rattle.std.specs.Prelude.{ℕ, Bool, ◌&&◌, ℤ, neg_ℤ, ◌==◌}
 use Rattle.refusal.specs.declared.Document.TheVariants.{Record}
 use Rattle.register.specs.Shapes.{Shape}
 use Rattle.units.specs.declared.bounds.Direction.{Direction}
-use Rattle.units.specs.declared.bounds.Direction.TheVariants.{Up, Down}
 use Rattle.postings.specs.declared.posting.Kind.{Kind}
 use Rattle.postings.specs.declared.posting.Kind.TheVariants.{Award as AWD, Mileage as MIL, Capacity as CAP, Obligation as OBL, Bill as BIL}
 use Rattle.postings.specs.declared.posting.Side.{Side}

@@ -1,5 +1,5 @@
 -- What every record that reads well keeps. Assumes nothing.
-use Rattle.std.proofs.Common.{◌≡◌, ℕ, ◌<◌, ◌≤◌, Bool, true, false, cond, ◌&&◌, leb, List, [], ◌∷◌, length, get_or, ℤ, Some, None, Ok, Err, Option, Result, sym, refl, ap, ◌∙◌, subst, arith, leb-true}
+use Rattle.std.proofs.Common.{◌≡◌, ℕ, ◌<◌, ◌≤◌, Bool, true, false, cond, ◌&&◌, leb, List, length, get_or, ℤ, Some, None, Ok, Err, Option, Result, sym, refl, ap, ◌∙◌, subst, arith, leb-true}
 use Rattle.std.specs.Option.{ok_or}
 use Rattle.refusal.specs.declared.Refusal.{Refusal}
 use Rattle.refusal.specs.declared.Refusal.TheVariants.{RecordLength, WrongHour, WrongVersion, UnknownName}
@@ -7,13 +7,13 @@ use Rattle.register.proofs.Basics.{true_false}
 use Rattle.register.proofs.Laws.{ok_err, ok_equal}
 use Rattle.units.specs.declared.bounds.Direction.{Direction}
 use Rattle.names.specs.Names.{text}
-use Rattle.roster.specs.Rosters.{Lines, found, position, site_names}
+use Rattle.roster.specs.Rosters.{Lines, found, position}
 use Rattle.roster.proofs.Positions.{position_within}
 use Rattle.postings.specs.declared.posting.Kind.{Kind}
 use Rattle.postings.specs.declared.posting.Kind.TheVariants.{Award, Mileage, Capacity, Obligation, Bill}
 use Rattle.postings.specs.declared.posting.Side.{Side}
 use Rattle.postings.specs.Postings.{Terms, award, mileage, capacity, obligation, bill, Said, key_for, key_of}
-use Rattle.record.specs.Reading.{then, framed, kind_in, direction_in, number_after, between, hour_in, version_in, blank_as, named_in, name_in, limits_of, numbers_in, terms_for, version_for, field, reading}
+use Rattle.record.specs.Reading.{then, framed, kind_in, direction_in, number_after, between, hour_in, version_in, blank_as, name_in, limits_of, numbers_in, terms_for, version_for, field, reading}
 
 -- a bill has a member of the roster, a number from 1 to 999 and no version
 pub record BillSound (roster : Lines) (version member number : ℕ) : Type 0 where

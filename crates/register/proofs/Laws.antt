@@ -1,11 +1,11 @@
 -- What is held after a put: look-ups, distinct keys, and how many. Assumes nothing.
-use Rattle.std.proofs.Common.{◌≡◌, ℕ, zero, suc, ◌<◌, ◌≤◌, Bool, true, false, cond, ltb, List, [], ◌∷◌, length, replicate, is_some, Some, None, Ok, Err, Option, Result, sym, refl, ap, ◌∙◌, subst, arith, le-ltb, lt-ltb}
+use Rattle.std.proofs.Common.{◌≡◌, ℕ, zero, suc, ◌≤◌, Bool, true, false, cond, ltb, List, [], ◌∷◌, length, replicate, is_some, Some, None, Ok, Err, Option, Result, sym, refl, ap, ◌∙◌, arith, le-ltb, lt-ltb}
 use Rattle.std.proofs.lemmas.Bool.Decides.{nat_tests}
 use Rattle.refusal.specs.declared.Refusal.{Refusal}
 use Rattle.refusal.specs.declared.Refusal.TheVariants.{VersionNotHigher, RegisterFull}
 use Rattle.register.specs.Shapes.{Shape, Decides}
 use Rattle.register.specs.Registers.{look, count, room, add, replace, answer_by, put_answer, leaves_by, put, distinct, HeldAfter}
-use Rattle.register.proofs.Basics.{none_some, some_equal, true_false, different, not_same}
+use Rattle.register.proofs.Basics.{none_some, true_false, different, not_same}
 
 pub ok_err : {A B X : Type 0} (a : A) (b : B) → ◌≡◌ {A = Result A B} (Ok a) (Err b) → X
 ok_err a b e = let z : ◌≡◌ {A = ℕ} 0 1 = cc in absurd (omega arith)

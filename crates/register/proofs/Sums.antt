@@ -1,11 +1,11 @@
 -- A sum over what is held is the sum of the look-ups over the key space. Assumes nothing.
-use Rattle.std.proofs.Common.{◌≡◌, ℕ, zero, suc, ◌+◌, ◌*◌, ◌<◌, ◌≤◌, Bool, true, false, cond, ◌⊎◌, List, [], ◌∷◌, length, ℤ, pos, ◌+ℤ◌, nat_abs, Some, None, Option, sym, refl, ap, ◌∙◌, subst, ap₂, inl, inr, suc-mul, arith}
+use Rattle.std.proofs.Common.{◌≡◌, ℕ, zero, suc, ◌+◌, ◌*◌, ◌<◌, ◌≤◌, Bool, true, false, cond, ◌⊎◌, List, [], ◌∷◌, ℤ, pos, ◌+ℤ◌, nat_abs, Some, None, Option, sym, refl, ap, ◌∙◌, subst, ap₂, inl, inr, suc-mul, arith}
 use native.Mathlib.Decide.{ℕ_discrete}
 use lib.IntN.{+ℤ_idl, +ℤ_idr}
 use Rattle.std.proofs.lemmas.Int.{ints}
 use Rattle.register.specs.Shapes.{Shape, Decides}
 use Rattle.register.specs.Registers.{look, distinct, value_of, sum_held, sum_over, Each, Space, SumsByKey, SumsBounded}
-use Rattle.register.proofs.Basics.{none_some, true_false, different, not_same}
+use Rattle.register.proofs.Basics.{not_same}
 use Rattle.register.proofs.Laws.{first_apart}
 
 pub interchange : (a b c d : ℤ) → (a +ℤ b) +ℤ (c +ℤ d) ≡ (a +ℤ c) +ℤ (b +ℤ d)

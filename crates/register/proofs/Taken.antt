@@ -1,14 +1,14 @@
 -- A register holds what was last taken under each key, and takes exactly what it should. Assumes nothing.
-use Rattle.std.proofs.Common.{◌≡◌, ℕ, zero, suc, ◌<◌, ◌≤◌, Bool, true, false, cond, ltb, List, [], ◌∷◌, length, replicate, ℤ, pos, ◌+ℤ◌, is_some, Some, None, Ok, Err, Option, Result, sym, refl, ap, ◌∙◌, subst, ap₂, arith, ltb-false, ltb-true, le-ltb, lt-ltb}
+use Rattle.std.proofs.Common.{◌≡◌, ℕ, zero, suc, ◌<◌, Bool, true, false, cond, ltb, List, [], ◌∷◌, length, replicate, ℤ, pos, ◌+ℤ◌, is_some, Some, None, Ok, Err, Option, Result, sym, refl, ap, ◌∙◌, subst, arith, ltb-true, lt-ltb}
 use lib.IntN.{+ℤ_idl, +ℤ_idr}
 use Rattle.std.proofs.lemmas.Int.{ints}
 use Rattle.refusal.specs.declared.Refusal.{Refusal}
 use Rattle.refusal.specs.declared.Refusal.TheVariants.{VersionNotHigher, RegisterFull}
 use Rattle.register.specs.Shapes.{Shape, Decides}
-use Rattle.register.specs.Registers.{look, count, room, add, replace, answer_by, put_answer, leaves_by, put, distinct, HeldAfter, value_of, sum_held, Each}
+use Rattle.register.specs.Registers.{look, count, room, add, replace, answer_by, put_answer, leaves_by, put, distinct, value_of, sum_held, Each}
 use Rattle.register.specs.Taken.{latest, keys, AllLower, Admitted}
-use Rattle.register.proofs.Basics.{none_some, some_equal, true_false, different, not_same}
-use Rattle.register.proofs.Laws.{held_after, room_count, look_fresh, distinct_fresh, count_fresh, ok_err, ok_equal, look_with}
+use Rattle.register.proofs.Basics.{none_some, some_equal, true_false}
+use Rattle.register.proofs.Laws.{held_after, room_count, look_fresh, distinct_fresh, count_fresh, ok_err, ok_equal}
 
 module _ {E K : Type 0} (w : Shape E K) where
   -- each element has a higher version than those taken before it under its key

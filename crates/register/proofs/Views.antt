@@ -1,12 +1,11 @@
 -- A register seen through a view of its elements: what it answers and holds is that of the views view. Assumes nothing.
-use Rattle.std.proofs.Common.{◌≡◌, ℕ, zero, suc, Bool, true, false, cond, ltb, List, [], ◌∷◌, map, length, replicate, ℤ, pos, ◌+ℤ◌, is_some, Some, None, Ok, Err, Option, Result, sym, refl, ap, ◌∙◌, ap₂}
+use Rattle.std.proofs.Common.{◌≡◌, ℕ, zero, suc, Bool, true, false, cond, ltb, List, [], ◌∷◌, length, replicate, ℤ, ◌+ℤ◌, Some, None, Ok, Err, Option, Result, refl, ap, ◌∙◌, ap₂}
 use Rattle.std.specs.Option.{option_map}
-use Rattle.refusal.specs.declared.Document.{Document}
 use Rattle.refusal.specs.declared.Refusal.{Refusal}
 use Rattle.refusal.specs.declared.Refusal.TheVariants.{VersionNotHigher, RegisterFull}
 use Rattle.register.specs.Shapes.{Shape}
 use Rattle.register.specs.Views.{through, views, view_answer}
-use Rattle.register.specs.Registers.{look, count, room, add, replace, answer_by, put_answer, leaves_by, put, distinct, sum_held, value_of}
+use Rattle.register.specs.Registers.{look, room, add, replace, answer_by, put_answer, leaves_by, put, sum_held, value_of}
 
 module _ {E S K : Type 0} (view : E → S) (w : Shape S K) where
   pub look_view : (k : K) (xs : List (Option E)) → option_map view (look (through view w) k xs) ≡ look w k (views view xs)

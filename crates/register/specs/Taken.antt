@@ -1,5 +1,5 @@
 -- What was taken into a register, the newest first. Assumes nothing.
-use Rattle.std.specs.Prelude.{◌≡◌, ℕ, suc, ◌<◌, Bool, true, false, cond, List, [], ◌∷◌, ℤ, pos, ◌+ℤ◌, is_some, Some, None, Option}
+use Rattle.std.specs.Prelude.{◌≡◌, ℕ, suc, ◌<◌, true, cond, List, [], ◌∷◌, ℤ, pos, ◌+ℤ◌, is_some, Some, None, Option}
 use Rattle.register.specs.Shapes.{Shape}
 
 -- the last element taken under a key

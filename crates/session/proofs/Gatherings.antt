@@ -1,9 +1,9 @@
 -- A line of the roster, gathered. Assumes nothing.
-use Rattle.std.proofs.Common.{◌≡◌, ℕ, Bool, true, false, cond, List, [], ◌∷◌, ◌++◌, map, Option, sym, refl, ap, ◌∙◌, subst, inl, inr}
+use Rattle.std.proofs.Common.{◌≡◌, ℕ, Bool, true, false, cond, List, [], ◌∷◌, ◌++◌, map, Option, sym, ap, ◌∙◌, subst, inl, inr}
 use mathlib.Core.List.{map-append}
 use Rattle.roster.specs.declared.entries.Member.{Member}
 use Rattle.roster.specs.declared.entries.Site.{Site}
-use Rattle.roster.specs.Rosters.{Lines, lines_of, line_of}
+use Rattle.roster.specs.Rosters.{lines_of, line_of}
 use Rattle.journal.specs.Reading.{Request, member, site}
 use Rattle.session.specs.Calls.{argument_of}
 use Rattle.session.specs.declared.opening.Step.{Step}

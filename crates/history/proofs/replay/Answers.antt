@@ -1,4 +1,4 @@
-use Rattle.std.proofs.Common.{◌≡◌, ◌+◌, ◌++◌, map, drop, sym, refl, ap, ◌∙◌, subst, arith, rules}
+use Rattle.std.proofs.Common.{◌+◌, ◌++◌, map, drop, sym, refl, ap, ◌∙◌, subst, arith, rules}
 use Rattle.day.specs.Requests.{request_of}
 use Rattle.day.specs.States.{state_of}
 use Rattle.history.specs.Runs.{Run, events, with_events}

@@ -1,4 +1,4 @@
-use Rattle.std.proofs.Common.{◌≡◌, true, false, ltb, Some, Ok, Err, sym, ap, ◌∙◌, rules}
+use Rattle.std.proofs.Common.{◌≡◌, true, false, ltb, Some, Ok, Err, ap, ◌∙◌, rules}
 use Rattle.refusal.specs.declared.Refusal.TheVariants.{VersionNotHigher}
 use Rattle.register.specs.Registers.{place_of, put_answer}
 use Rattle.register.proofs.Places.{put_higher, put_not_higher, put_free, put_full}

@@ -1,6 +1,6 @@
-use Rattle.std.proofs.Common.{◌≡◌, ◌+◌, ◌*◌, ◌≤◌, get_or, drop, ℤ, pos, ◌+ℤ◌, nat_abs, sym, ap, ◌∙◌, subst, ap₂, arith}
+use Rattle.std.proofs.Common.{◌≡◌, ◌+◌, ◌*◌, ◌≤◌, drop, ℤ, ◌+ℤ◌, nat_abs, sym, ap, ◌∙◌, subst}
 use lib.IntN.{+ℤ_assoc, +ℤ_idr}
-use Rattle.std.proofs.lemmas.List.{at_drop_more, at_drop_all, drop_more}
+use Rattle.std.proofs.lemmas.List.{at_drop_more, at_drop_all}
 use Rattle.register.specs.Registers.{value_of, sum_held}
 use Rattle.postings.specs.declared.posting.Posting.{Posting}
 use Rattle.postings.specs.Postings.{said}

@@ -1,4 +1,4 @@
-use Rattle.std.proofs.Common.{◌≡◌, ◌-◌, ◌<◌, length, get_or, ◌∙◌, arith, ltb-false, ltb-true}
+use Rattle.std.proofs.Common.{◌<◌, length, ◌∙◌, arith, ltb-false, ltb-true}
 use Rattle.journal.proofs.Folders.{folder_shorter, folder_whole}
 use Rattle.journal.proofs.paths.folder.Goals as goal
 

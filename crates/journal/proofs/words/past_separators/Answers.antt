@@ -1,5 +1,5 @@
 use Rattle.std.proofs.Common.{◌≡◌, ◌<◌, length, sym, ◌∙◌, arith, ltb-false, ltb-true}
-use Rattle.journal.proofs.Cuts.{pass_one, pass_none, pass_end}
+use Rattle.journal.proofs.Cuts.{pass_one, pass_end}
 use Rattle.journal.proofs.words.past_separators.Goals as goal
 
 pub loop-left-preserved : goal.loop-left-preserved

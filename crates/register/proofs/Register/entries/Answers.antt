@@ -1,5 +1,3 @@
-use Rattle.register.proofs.Taken
-use Rattle.register.proofs.Views
 use Rattle.std.proofs.Common.{refl}
 use Rattle.register.proofs.Sums.{sums_by_key, sums_bounded}
 use Rattle.register.proofs.Register.entries.Goals as goal

@@ -1,5 +1,5 @@
-use Rattle.std.proofs.Common.{◌≡◌, sym, ◌∙◌, subst, ap₂}
-use Rattle.register.specs.Registers.{put_answer, put, HeldAfter}
+use Rattle.std.proofs.Common.{sym, subst}
+use Rattle.register.specs.Registers.{put_answer, HeldAfter}
 use Rattle.register.proofs.Laws.{held_after}
 use Rattle.register.proofs.Register.put.Goals as goal
 

@@ -1,4 +1,4 @@
-use Rattle.std.proofs.Common.{◌≡◌, true, cond, ltb, length, ℤ, Ok, Err, sym, ap, ◌∙◌, ap₂, lt-ltb}
+use Rattle.std.proofs.Common.{◌≡◌, true, cond, ltb, length, ℤ, Ok, Err, sym, ap, ◌∙◌, lt-ltb}
 use Rattle.refusal.specs.declared.Refusal.TheVariants.{WrongArgument}
 use Rattle.register.specs.Registers.{sum_held}
 use Rattle.register.specs.Held.{places_in}

@@ -1,11 +1,10 @@
-use Rattle.std.proofs.Common.{length, sym, ap, ◌∙◌}
+use Rattle.std.proofs.Common.{length, ap, ◌∙◌}
 use Rattle.register.specs.Registers.{distinct}
 use Rattle.register.specs.Views.{views}
 use Rattle.register.proofs.Laws.{distinct_fresh}
 use Rattle.register.proofs.Views.{fresh_view}
 use Rattle.roster.specs.Rosters.{roster_of}
 use Rattle.postings.specs.Postings.{posting_shape, said, shape}
-use Rattle.day.specs.Days.{State}
 use Rattle.day.proofs.open_day.OpenDay.open.Goals as goal
 
 pub invariant_of-result : goal.invariant_of-result

@@ -1,4 +1,4 @@
-use Rattle.std.proofs.Common.{Ok, Err, ◌∙◌}
+use Rattle.std.proofs.Common.{Ok, Err}
 use Rattle.register.specs.Held.{places_in}
 use Rattle.roster.specs.Rosters.{roster_of}
 use Rattle.day.proofs.Posts.{answers, leaves}

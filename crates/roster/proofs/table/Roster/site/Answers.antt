@@ -1,7 +1,6 @@
 use Rattle.std.proofs.Common.{◌≡◌, ℕ, ◌<◌, ◌≤◌, length, Some, None, Option, arith, MatchOption}
 use lib.ListN.{length-map}
 use Rattle.roster.specs.declared.entries.SiteIndex.{SiteIndex}
-use Rattle.roster.specs.Rosters.{line_of}
 use Rattle.roster.proofs.table.Roster.site.Goals as goal
 
 found : (number count : ℕ) → number < count → count ≤ 32 → (r : Option SiteIndex) → MatchOption r (32 ≤ number) (λ i. i.value ≡ number) →
