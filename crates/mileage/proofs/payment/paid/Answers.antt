@@ -22,13 +22,13 @@ fitting part price accuracy p q r =
       fits_whole = within_fits _ (part *ℤ price *ℤ accuracy) (lit< tt) (within_product _ full_accuracy (part *ℤ price) accuracy product r);
     }
 
-pub overflow-mul-part : goal.overflow-mul-part
-overflow-mul-part c =
+pub overflow_mul-part : goal.overflow_mul-part
+overflow_mul-part c =
     let fits = fitting c.args.part.0 c.args.price.0 c.args.accuracy.value c.requires.0 c.requires.1 c.args.accuracy.within in
     search rules
 
-pub overflow-mul-part-2 : goal.overflow-mul-part-2
-overflow-mul-part-2 c =
+pub overflow_mul-part-2 : goal.overflow_mul-part-2
+overflow_mul-part-2 c =
     let fits = fitting c.args.part.0 c.args.price.0 c.args.accuracy.value c.requires.0 c.requires.1 c.args.accuracy.within in
     search rules
 

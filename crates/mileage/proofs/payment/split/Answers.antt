@@ -26,8 +26,8 @@ fitting a j s within is =
     let schedule = scheduled a s is in
     (within_fits mileage_limit j (lit< tt) within, within_fits 40000 s (lit< tt) schedule, within_fits _ (j *ℤ s) (lit< tt) (within_product mileage_limit 40000 j s within schedule))
 
-pub overflow-mul-whole : goal.overflow-mul-whole
-overflow-mul-whole c =
+pub overflow_mul-whole : goal.overflow_mul-whole
+overflow_mul-whole c =
     let fits = fitting c.args.award.now c.args.mileage.value.0 c.day_ahead_schedule.result.0 c.args.mileage.within c.day_ahead_schedule.ensures in
     search rules
 
@@ -48,8 +48,8 @@ split_shared c =
     let least = (scheduled a (day_ahead a) refl).0 in
     shared j (day_ahead a) (greater a) c.in-Some.share c.args.mileage.within.0 least (omega (arith, ints, clamps)) found
 
-pub overflow-sub-result : goal.overflow-sub-result
-overflow-sub-result c = let known = split_shared c in search rules
+pub overflow_sub-result : goal.overflow_sub-result
+overflow_sub-result c = let known = split_shared c in search rules
 
 pub invariant_of-result-2 : goal.invariant_of-result-2
 invariant_of-result-2 c = let known = split_shared c in search rules
