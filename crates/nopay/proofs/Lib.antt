@@ -1,3 +1,0 @@
-pub mod Greatest
-pub mod Hours
-pub mod Withholding

@@ -1,5 +1,0 @@
-pub mod Keys
-pub mod Verdicts
-pub mod Rooms
-pub mod Running
-pub mod Rows
