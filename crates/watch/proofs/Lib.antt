@@ -1,0 +1,5 @@
+pub mod Keys
+pub mod Verdicts
+pub mod Rooms
+pub mod Running
+pub mod Rows

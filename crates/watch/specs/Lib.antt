@@ -1,0 +1,6 @@
+pub mod Limits
+pub mod Minutes
+pub mod Availabilities
+pub mod Assessed
+pub mod Quarters
+pub mod Watches
