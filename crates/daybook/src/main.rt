@@ -8,6 +8,7 @@ mod run;
 use crate::output::Output;
 use crate::run::run;
 use anyhow::anyhow;
+use std::process::ExitCode;
 use std::{env, fs};
 
 fn run_journal(rt: &HostRuntime, path: &str) -> anyhow::Result<()> {
@@ -27,10 +28,13 @@ fn run_arguments(rt: &HostRuntime) -> anyhow::Result<()> {
     }
 }
 
-fn main(rt: HostRuntime) -> anyhow::Result<()> {
-    let ended = run_arguments(&rt);
-    if let Err(error) = &ended {
-        eprintln!(rt; "daybook: {error}")?;
+// What went wrong is printed here, once; so an error is not returned, since a returned one is printed too.
+fn main(rt: HostRuntime) -> anyhow::Result<ExitCode> {
+    match run_arguments(&rt) {
+        Ok(()) => Ok(ExitCode::SUCCESS),
+        Err(error) => {
+            eprintln!(rt; "daybook: {error}")?;
+            Ok(ExitCode::FAILURE)
+        }
     }
-    ended
 }
