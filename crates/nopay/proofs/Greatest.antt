@@ -4,7 +4,7 @@ use Rattle.std.specs.Int.Signed.{le_z, lt_z}
 use Rattle.std.proofs.lemmas.Int.{ints, clamps, by_lt_z}
 use Rattle.std.proofs.ByRecursion.{All-weaker}
 use Rattle.std.specs.Int.{int_max}
-use Rattle.std.specs.List.{AllByRecursion as All}
+use Rattle.std.specs.List.{AllByRecursion}
 use Rattle.nopay.specs.declared.cause.Cause.{Cause}
 use Rattle.nopay.specs.declared.cause.Cause.TheVariants.{NoCause, Outage, OffControl, Link, Constrained, OutOfRange}
 use Rattle.nopay.specs.NoPay.{cause_number, greatest, first_reaching, first_greatest, First, Governs}
@@ -25,7 +25,7 @@ low : (f : Cause → ℤ) (cs : List Cause) → pos 0 ≤ℤ greatest f cs
 low f [] = omega (arith, ints)
 low f (c ∷ cs) = let rest = low f cs in omega (arith, ints, clamps)
 
-most : (f : Cause → ℤ) (cs : List Cause) → All (λ c. f c ≤ℤ greatest f cs) cs
+most : (f : Cause → ℤ) (cs : List Cause) → AllByRecursion (λ c. f c ≤ℤ greatest f cs) cs
 most f [] = tt
 most f (c ∷ cs) = (omega (arith, ints, clamps), All-weaker (λ d. f d ≤ℤ greatest f cs) (λ d. f d ≤ℤ greatest f (c ∷ cs)) (λ d h. omega (arith, ints, clamps)) cs (most f cs))
 

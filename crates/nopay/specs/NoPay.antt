@@ -1,7 +1,7 @@
 -- What a site was not available for in a quarter, by which cause, and what it is therefore not paid. Assumes nothing.
 use Rattle.std.specs.Prelude.{◌≡◌, ℕ, cond, ◌≢◌, List, [], ◌∷◌, ◌++◌, ℤ, pos, ◌+ℤ◌, ◌-ℤ◌, ◌≤ℤ◌, ◌<ℤ◌, Some, None, fold, Option, int_le}
 use Rattle.std.specs.Int.{int_min, int_max}
-use Rattle.std.specs.List.{AllByRecursion as All}
+use Rattle.std.specs.List.{AllByRecursion}
 use Rattle.units.specs.Division.{floor_div}
 use Rattle.units.specs.Exactly.{ExactlyWhen}
 use Rattle.units.specs.declared.bounds.Direction.{Direction}
@@ -99,11 +99,11 @@ pub record First (total : ℤ) (quantity_of : Cause → ℤ) (cs : List Cause) (
   pub earlier : List Cause
   pub later : List Cause
   pub order : cs ≡ earlier ++ (cause ∷ later)
-  pub below : All (λ c. quantity_of c <ℤ total) earlier
+  pub below : AllByRecursion (λ c. quantity_of c <ℤ total) earlier
 
 -- the cause that counts: no cause has a greater quantity, and none before it one as great; its number is 0 exactly where none has any
 pub record Governs (quantity_of : Cause → ℤ) (cs : List Cause) (cause : Cause) : Type 0 where
   pub reaches : quantity_of cause ≡ greatest quantity_of cs
-  pub most : All (λ c. quantity_of c ≤ℤ greatest quantity_of cs) cs
+  pub most : AllByRecursion (λ c. quantity_of c ≤ℤ greatest quantity_of cs) cs
   pub none : ExactlyWhen (cause_number cause ≡ 0) (greatest quantity_of cs ≡ pos 0)
   pub first : greatest quantity_of cs ≢ pos 0 → First (greatest quantity_of cs) quantity_of cs cause
