@@ -1,5 +1,9 @@
 //! What is printed, and the count of it.
 
+ghost use Rattle.std.specs.Prelude.{◌≡◌, IfErr};
+ghost use Rattle.std.specs.IoError.{error_kind};
+ghost use Rattle.std.specs.declared.io.ErrorKind.{ErrorKind};
+
 use journal::split_word;
 use outcomes::{Label, Outcome, Tally, report};
 use std::alloc::Global;
@@ -14,7 +18,10 @@ pub struct Output {
 }
 
 impl Output {
-    pub fn new(rt: &HostRuntime) -> io::Result<Output> {
+    // It fails only where memory for the buffer is wanting.
+    pub fn new(rt: &HostRuntime) -> io::Result<Output>
+        ensures { IfErr result (λ e. error_kind e ≡ ErrorKind.OutOfMemory) }
+    {
         let heap = rt.alloc();
         Ok(Output {
             heap,
