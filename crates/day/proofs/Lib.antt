@@ -1,3 +1,2 @@
 pub mod BillKeys
 pub mod Totals
-pub mod Posts

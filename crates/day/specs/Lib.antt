@@ -4,3 +4,4 @@ pub mod Bills
 pub mod States
 pub mod Requests
 pub mod Answers
+pub mod Replies

@@ -1,7 +1,10 @@
 //! The pool's own accounts.
 
 ghost use Rattle.std.specs.Prelude.{◌≡◌};
+ghost use Rattle.std.specs.Result.{result_ok};
 ghost use Rattle.day.specs.Accounts.{account_at};
+
+use units::OutOfRange;
 
 // Rounding: the cents that are left where quantities add up to the divisor. Neutrality: every other left-over.
 // Pass-through: all bills, reversed.
@@ -12,16 +15,18 @@ pub enum Account {
     PassThrough,
 }
 
-impl Account {
-    // The account of a number.
-    pub fn numbered(number: usize) -> Option<Account>
-        ensures { result ≡ account_at number }
-    {
+// By its number.
+impl TryFrom<usize> for Account {
+    type Error = OutOfRange;
+
+    ghost try_from_gives = { λ number r. result_ok r ≡ account_at number };
+
+    fn try_from(number: usize) -> Result<Account, OutOfRange> {
         match number {
-            0 => Some(Account::Rounding),
-            1 => Some(Account::Neutrality),
-            2 => Some(Account::PassThrough),
-            _ => None,
+            0 => Ok(Account::Rounding),
+            1 => Ok(Account::Neutrality),
+            2 => Ok(Account::PassThrough),
+            _ => Err(OutOfRange),
         }
     }
 }

@@ -1,12 +1,14 @@
 //! A call of a day and its answer, as values.
 
-ghost use Rattle.std.specs.Prelude.{◌≡◌};
+ghost use Rattle.std.specs.Prelude.{◌≡◌, Some};
 ghost use Rattle.day.specs.States.{state_of};
-ghost use Rattle.day.specs.Answers.{answer, after, taken_answer, figure_answer};
+ghost use Rattle.day.specs.Answers.{answer, after};
 ghost use Rattle.day.specs.Requests.{request_of};
+ghost use Rattle.day.specs.Replies.{reply_text};
 
 use crate::open_day::OpenDay;
 use refusal::Refusal;
+use std::fmt;
 use units::Cents;
 
 // What is asked of a day.
@@ -17,39 +19,40 @@ pub enum Call<'c> {
     Account(usize),
 }
 
+// What a day says to a call that it does not refuse.
 #[derive(Clone, Copy)]
-pub enum Answer {
+pub enum Reply {
     Taken,
     Figure(Cents),
-    Refused(Refusal),
 }
 
-fn figure(res: Result<Cents, Refusal>) -> Answer
-    ensures { result ≡ figure_answer res }
-{
-    match res {
-        Ok(cents) => Answer::Figure(cents),
-        Err(refusal) => Answer::Refused(refusal),
+impl fmt::Display for Reply {
+    ghost output = { λ reply. Some (reply_text reply) };
+
+    fn fmt<W: fmt::Write>(&self, f: &mut fmt::Formatter<W>) -> fmt::Result {
+        match self {
+            Reply::Taken => f.write_str("taken"),
+            Reply::Figure(cents) => {
+                let figure = cents.0;
+                write!(f, "{figure}")
+            }
+        }
     }
 }
 
-fn taken(res: Result<(), Refusal>) -> Answer
-    ensures { result ≡ taken_answer res }
-{
-    match res {
-        Ok(()) => Answer::Taken,
-        Err(refusal) => Answer::Refused(refusal),
-    }
-}
+// What a day answers: a reply, or why it refuses.
+pub type Answer = Result<Reply, Refusal>;
 
-// Makes a call.
-pub fn make(day: &mut OpenDay<'_>, call: &Call<'_>) -> Answer
-    ensures answers { result ≡ answer (state_of day.old) (request_of call.now) }
-    ensures leaves { state_of day.new ≡ after (state_of day.old) (request_of call.now) }
-{
-    match call {
-        Call::Post(bytes) => taken(day.post(bytes)),
-        Call::Balance(member) => figure(day.balance(*member)),
-        Call::Account(number) => figure(day.account(*number)),
+impl OpenDay<'_> {
+    // Makes a call.
+    pub fn make(&mut self, call: &Call<'_>) -> Answer
+        ensures answers { result ≡ answer (state_of self.old) (request_of call.now) }
+        ensures leaves { state_of self.new ≡ after (state_of self.old) (request_of call.now) }
+    {
+        match call {
+            Call::Post(bytes) => self.post(bytes).map(|()| Reply::Taken),
+            Call::Balance(member) => self.balance(*member).map(Reply::Figure),
+            Call::Account(number) => self.account(*number).map(Reply::Figure),
+        }
     }
 }

@@ -8,5 +8,5 @@ pub mod open_day;
 pub mod sums;
 
 pub use account::Account;
-pub use calls::{Answer, Call, make};
+pub use calls::{Answer, Call, Reply};
 pub use open_day::OpenDay;

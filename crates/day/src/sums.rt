@@ -1,54 +1,57 @@
 //! Sums over the bills held.
 
-ghost use Rattle.std.specs.Prelude.{◌≡◌, ◌*◌, ◌≤◌, true, unsigned_abs};
-ghost use Rattle.register.specs.Registers.{distinct, value_of, sum_held};
-ghost use Rattle.postings.specs.Postings.{posting_shape, said};
-ghost use Rattle.day.specs.Bills.{cents_for};
+ghost use Rattle.std.specs.Prelude.{◌≡◌, ◌*◌, ◌≤◌, unsigned_abs};
+ghost use Rattle.register.specs.Registers.{value_of, sum_held};
+ghost use Rattle.register.specs.Held.{places_in};
+ghost use Rattle.register.specs.Views.{views};
+ghost use Rattle.postings.specs.Postings.{said};
+ghost use Rattle.day.specs.Bills.{counts, cents_for};
 
-use postings::{Content, Posting};
-use units::Cents;
+use postings::{Bill, Content, Posting};
+use register::Register;
+use units::{Bounded, Cents};
 
-// Whose bills are summed.
+// Whose bills are summed: a choice with names, which contracts and laws cite.
 #[derive(Clone, Copy)]
 pub enum Billed {
     Member(usize),
     Everyone,
 }
 
+impl Billed {
+    fn counts(self, bill: Bill) -> bool
+        ensures { result ≡ counts self bill.member.value }
+    {
+        match self {
+            Billed::Member(member) => usize::from(bill.member.value) == member,
+            Billed::Everyone => true,
+        }
+    }
+}
+
 // What one place adds.
-fn cents_of(place: &Option<Posting>, billed: Billed) -> Cents
-    ensures value { result.0 ≡ value_of (λ p. cents_for billed (said p).terms) place.now }
-    ensures bound { unsigned_abs result.0 ≤ 999999 }
+fn cents_of(place: &Option<Posting>, billed: Billed) -> Bounded<Cents, 999_999>
+    ensures { result.value.0 ≡ value_of (λ p. cents_for billed (said p).terms) place.now }
 {
-    match place {
-        None => Cents(0),
-        Some(posting) => posting_cents(posting, billed),
+    if let Some(posting) = place
+        && let Content::Bill(bill) = posting.content
+        && billed.counts(bill)
+    {
+        bill.signed()
+    } else {
+        Bounded { value: Cents(0) }
     }
 }
 
-fn posting_cents(posting: &Posting, billed: Billed) -> Cents
-    ensures value { result.0 ≡ cents_for billed (said posting.now).terms }
-    ensures bound { unsigned_abs result.0 ≤ 999999 }
-{
-    match posting.content {
-        Content::Bill(bill) => match billed {
-            Billed::Member(member) if usize::from(bill.member.value) != member => Cents(0),
-            Billed::Member(_) | Billed::Everyone => bill.signed(),
-        },
-        Content::Award(_) | Content::Mileage(_) | Content::Capacity(_) | Content::Obligation(_) =>
-            Cents(0),
-    }
-}
-
-// The sum over the postings held under distinct keys: there are so few keys of bills that it fits, however many places there are.
-pub(crate) fn sum_bills(places: &[Option<Posting>], billed: Billed) -> Cents
-    requires { distinct posting_shape places.now ≡ true }
-    ensures value { result.0 ≡ sum_held (λ p. cents_for billed (said p).terms) places.now }
+// The sum over the postings held: there are so few keys of bills that it fits, however many places there are.
+pub(crate) fn sum_bills(records: &Register<'_, Posting>, billed: Billed) -> Cents
+    ensures value { result.0 ≡ sum_held (λ said. cents_for billed said.terms) (views said (places_in records.now)) }
     ensures bound { unsigned_abs result.0 ≤ 767232 * 999999 }
 {
+    // No iterator's sum: that of signed numbers says nothing of its bound.
     let mut total = Cents(0);
-    for place in places {
-        total = total + cents_of(place, billed);
+    for place in records.entries() {
+        total = total + cents_of(place, billed).value;
     }
     total
 }

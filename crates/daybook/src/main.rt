@@ -6,7 +6,7 @@ mod output;
 mod run;
 
 use crate::output::Output;
-use crate::run::run;
+use crate::run::Journal;
 use anyhow::anyhow;
 use std::process::ExitCode;
 use std::{env, fs};
@@ -14,7 +14,12 @@ use std::{env, fs};
 fn run_journal(rt: &HostRuntime, path: &str) -> anyhow::Result<()> {
     let text = fs::read(rt, path)?;
     let mut output = Output::new(rt)?;
-    run(rt, path, text.as_slice(), &mut output)?;
+    let mut journal = Journal {
+        rt,
+        path,
+        output: &mut output,
+    };
+    journal.run(text.as_slice())?;
     output.finish()?;
     Ok(())
 }

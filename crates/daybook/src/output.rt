@@ -26,7 +26,7 @@ impl Output {
         Ok(Output {
             heap,
             writer: BufWriter::new(heap, rt.stdout())?,
-            tally: Tally::new(),
+            tally: Tally::default(),
         })
     }
 

@@ -1,15 +1,15 @@
 //! A journal from its first line to its last.
 
 ghost use Rattle.std.specs.Prelude.{◌≡◌, Ok};
-ghost use Rattle.roster.specs.Rosters.{lines_of, opening};
-ghost use Rattle.session.specs.Openings.{WhenOpened};
+ghost use Rattle.roster.specs.Rosters.{opening};
+ghost use Rattle.session.specs.Gathering.{gathered, WhenOpened};
 
 use crate::output::Output;
-use day::{Answer, OpenDay};
+use day::{Answer, OpenDay, Reply};
 use journal::{Line, Lines, located, read_line};
-use outcomes::{Label, Outcome, Reason};
-use roster::{Member, Roster, Site};
-use session::{RecordPlaces, Step, make_one, outcome_of, post, post_all, question, take_line};
+use outcomes::{Failure, Label, Outcome, Reason};
+use roster::Roster;
+use session::{RecordPlaces, RosterLines, answer, post_all};
 use std::alloc::Global;
 use std::str::from_utf8;
 use std::{fs, io};
@@ -18,91 +18,84 @@ use std::{fs, io};
 pub fn before_day<'j>(
     heap: Global,
     lines: &mut Lines<'j>,
-    members: &mut Vec<Member<'j>>,
-    sites: &mut Vec<Site<'j>>,
+    roster: &mut RosterLines<'j>,
     output: &mut Output,
 ) -> io::Result<Option<RecordPlaces>>
-    ensures { WhenOpened result (opening (lines_of members.new.items sites.new.items) ≡ Ok tt) }
+    ensures { WhenOpened result (opening (gathered roster.new) ≡ Ok tt) }
 {
-    while let Some((number, line)) = lines.next() {
-        match take_line(heap, members, sites, line) {
-            Step::Silent => {}
-            Step::Printed(outcome) => output.print_line(number, line, outcome)?,
-            Step::Opened(places) => {
-                output.print_line(number, line, Outcome::Taken)?;
+    for (number, line) in lines {
+        match roster.take(heap, line) {
+            Ok(None) => {}
+            Ok(Some(places)) => {
+                output.print_line(number, line, Ok(Reply::Taken))?;
                 return Ok(Some(places));
             }
+            Err(failure) => output.print_line(number, line, Err(failure))?,
         }
     }
     Ok(None)
 }
 
-fn read_file(rt: &HostRuntime, path: &str, file: &[u8]) -> Result<Vec<u8>, Reason> {
-    let Ok(path) = located(rt.alloc(), path.as_bytes(), file) else {
-        return Err(Reason::NoMemory);
-    };
-    let Ok(path) = from_utf8(path.as_slice()) else {
-        return Err(Reason::UnreadableFile);
-    };
-    match fs::read(rt, path) {
-        Ok(text) => Ok(text),
-        Err(_) => Err(Reason::UnreadableFile),
-    }
+// A journal that is run: where it lies, and what is printed of it.
+#[derive(Drop)]
+pub struct Journal<'r> {
+    pub rt: &'r HostRuntime,
+    pub path: &'r str,
+    pub output: &'r mut Output,
 }
 
-fn print_records(output: &mut Output, number: u64, answers: &[Answer]) -> io::Result<()> {
-    let mut nth: u64 = 0;
-    for answer in answers {
-        nth = nth.saturating_add(1);
-        output.print(Label::Record(number, nth), b"record", outcome_of(*answer))?;
+impl Journal<'_> {
+    // The bytes of a file that the journal names.
+    fn read_file(&self, file: &[u8]) -> Result<Vec<u8>, Failure> {
+        let path = located(self.rt.alloc(), self.path.as_bytes(), file)?;
+        let path = from_utf8(path.as_slice()).map_err(|_| Reason::UnreadableFile)?;
+        let text = fs::read(self.rt, path).map_err(|_| Reason::UnreadableFile)?;
+        Ok(text)
     }
-    Ok(())
-}
 
-// Makes the calls of one line of a day.
-fn with_day(
-    rt: &HostRuntime,
-    path: &str,
-    output: &mut Output,
-    day: &mut OpenDay<'_>,
-    number: u64,
-    line: &[u8],
-) -> io::Result<()> {
-    let heap = rt.alloc();
-    let read = read_line(line);
-    let outcome = match read {
-        Line::Passed => return Ok(()),
-        Line::Member(_) | Line::Site(_, _) | Line::Open(_) => Outcome::NotTaken(Reason::DayIsOpen),
-        Line::Record(text) => post(heap, day, text),
-        Line::Records(file) => match read_file(rt, path, file) {
-            Ok(text) => match post_all(heap, day, text.as_slice()) {
-                Ok(answers) => return print_records(output, number, answers.as_slice()),
-                Err(_) => Outcome::NotTaken(Reason::NoMemory),
+    // Posts the records of a file that the journal names.
+    fn post_file(&self, day: &mut OpenDay<'_>, file: &[u8]) -> Result<Vec<Answer>, Failure> {
+        let text = self.read_file(file)?;
+        Ok(post_all(self.rt.alloc(), day, text.as_slice())?)
+    }
+
+    fn print_records(&mut self, number: u64, answers: &[Answer]) -> io::Result<()> {
+        for (nth, answer) in (1..u64::MAX).zip(answers) {
+            let outcome = answer.map_err(Failure::from);
+            self.output
+                .print(Label::Record(number, nth), b"record", outcome)?;
+        }
+        Ok(())
+    }
+
+    // Makes the calls of one line of a day.
+    fn run_line(&mut self, day: &mut OpenDay<'_>, number: u64, line: &[u8]) -> io::Result<()> {
+        match read_line(line) {
+            Ok(Line::Passed) => Ok(()),
+            Ok(Line::Records(file)) => match self.post_file(day, file) {
+                Ok(answers) => self.print_records(number, answers.as_slice()),
+                Err(failure) => self.output.print_line(number, line, Err(failure)),
             },
-            Err(reason) => Outcome::NotTaken(reason),
-        },
-        Line::Balance(_) | Line::Account(_) => match question(read) {
-            Some(call) => make_one(heap, day, call),
-            None => Outcome::NotTaken(Reason::UnknownWord),
-        },
-        Line::Wrong(reason) => Outcome::NotTaken(reason),
-    };
-    output.print_line(number, line, outcome)
-}
-
-// Goes through the lines of the journal at the path: first without a day, then with the day that one of them opened.
-pub fn run(rt: &HostRuntime, path: &str, text: &[u8], output: &mut Output) -> io::Result<()> {
-    let heap = rt.alloc();
-    let mut lines = Lines::new(text);
-    let mut members = Vec::new(heap);
-    let mut sites = Vec::new(heap);
-    let Some(mut places) = before_day(heap, &mut lines, &mut members, &mut sites, output)? else {
-        return Ok(());
-    };
-    let roster = Roster::new(members.as_slice(), sites.as_slice());
-    let mut day = OpenDay::open(roster, places.as_mut_slice());
-    while let Some((number, line)) = lines.next() {
-        with_day(rt, path, output, &mut day, number, line)?;
+            read => {
+                let outcome = answer(self.rt.alloc(), day, read);
+                self.output.print_line(number, line, outcome)
+            }
+        }
     }
-    Ok(())
+
+    // Goes through the lines: first without a day, then with the day that one of them opened.
+    pub fn run(&mut self, text: &[u8]) -> io::Result<()> {
+        let heap = self.rt.alloc();
+        let mut lines = Lines::new(text);
+        let mut gathered = RosterLines::new(heap);
+        let Some(mut places) = before_day(heap, &mut lines, &mut gathered, self.output)? else {
+            return Ok(());
+        };
+        let roster = Roster::new(gathered.members.as_slice(), gathered.sites.as_slice());
+        let mut day = OpenDay::open(roster, places.as_mut_slice());
+        for (number, line) in lines {
+            self.run_line(&mut day, number, line)?;
+        }
+        Ok(())
+    }
 }

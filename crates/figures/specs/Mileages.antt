@@ -5,7 +5,7 @@ use Rattle.units.specs.declared.bounds.Direction.TheVariants.{Up, Down}
 use Rattle.signal.specs.Samples.{Sample, counted}
 use Rattle.signal.specs.Sums.{Sums, sums, accuracy_of}
 use Rattle.signal.specs.Laws.{negated}
-use Rattle.mileage.specs.Mileage.{day_ahead_part, real_time_part, paid}
+use Rattle.mileage.specs.Mileage.{Schedules, day_ahead_part, real_time_part, paid}
 
 -- a sample in MW
 abbrev pub mw : ℕ → ℕ → Sample
@@ -23,19 +23,23 @@ listed s = s.mileage ∷ s.set_points ∷ s.deviation ∷ s.accuracy ∷ []
 abbrev pub quarter_figures : Direction → List Sample → List ℤ
 quarter_figures d xs = listed (sums (pos 0) (map (counted d) xs))
 
--- the two parts of J, by A1, A2 and A4
-abbrev pub parts : ℤ → ℤ → ℤ → ℤ → List ℤ
-parts j a1 a2 a4 = day_ahead_part j a1 a2 a4 ∷ real_time_part j a1 a2 a4 ∷ []
+-- an award, a self-provision and a final schedule, in kW
+abbrev pub scheduled : ℕ → ℕ → ℕ → Schedules
+scheduled award self_provision final = record { award = pos award; self_provision = pos self_provision; final = pos final }
+
+-- the two parts of a mileage
+abbrev pub parts : ℤ → Schedules → List ℤ
+parts j s = day_ahead_part j s ∷ real_time_part j s ∷ []
 
 -- what they are paid
-abbrev pub payments : ℤ → ℤ → ℤ → ℤ → ℤ → ℤ → ℤ → List ℤ
-payments j a1 a2 a4 day_ahead real_time accuracy = paid (day_ahead_part j a1 a2 a4) day_ahead accuracy ∷ paid (real_time_part j a1 a2 a4) real_time accuracy ∷ []
+abbrev pub payments : ℤ → Schedules → ℤ → ℤ → ℤ → List ℤ
+payments j s day_ahead real_time accuracy = paid (day_ahead_part j s) day_ahead accuracy ∷ paid (real_time_part j s) real_time accuracy ∷ []
 
 abbrev pub computed : List ℤ
 computed =
     quarter_figures Up table
     ++ quarter_figures Down (map negated table)
     ++ (accuracy_of (pos 3) (pos 1) ∷ accuracy_of (pos 3) (pos 3) ∷ [])
-    ++ parts (pos 88000) (pos 4000) (pos 2000) (pos 10000)
-    ++ payments (pos 88000) (pos 4000) (pos 2000) (pos 10000) (pos 50) (pos 40) (pos 8950)
-    ++ parts (pos 88000) (pos 4000) (pos 2000) (pos 5000)
+    ++ parts (pos 88000) (scheduled 4000 2000 10000)
+    ++ payments (pos 88000) (scheduled 4000 2000 10000) (pos 50) (pos 40) (pos 8950)
+    ++ parts (pos 88000) (scheduled 4000 2000 5000)

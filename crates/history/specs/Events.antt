@@ -7,8 +7,8 @@ use Rattle.roster.specs.Rosters.{Lines}
 use Rattle.postings.specs.declared.posting.Key.{Key}
 use Rattle.postings.specs.Postings.{Terms, Said, shape}
 use Rattle.record.specs.Reading.{reading}
-use Rattle.day.specs.declared.calls.Answer.{Answer}
-use Rattle.day.specs.declared.calls.Answer.TheVariants.{Taken, Figure, Refused}
+use Rattle.day.specs.declared.calls.Reply.{Reply}
+use Rattle.day.specs.declared.calls.Reply.TheVariants.{Taken, Figure}
 use Rattle.day.specs.Bills.{bill_cents, all_cents}
 use Rattle.day.specs.Requests.{Request, post, balance, account}
 use Rattle.history.specs.Runs.{Event}
@@ -19,10 +19,10 @@ with_read (Ok said) before = said ∷ before
 with_read (Err refusal) before = before
 
 -- with the record that a call posted in front, if it was taken
-abbrev pub with_taken : Lines → Request → Answer → List Said → List Said
-with_taken roster (post bytes) Taken before = with_read (reading roster bytes) before
-with_taken roster (post bytes) (Figure c) before = before
-with_taken roster (post bytes) (Refused refusal) before = before
+abbrev pub with_taken : Lines → Request → Result Reply Refusal → List Said → List Said
+with_taken roster (post bytes) (Ok Taken) before = with_read (reading roster bytes) before
+with_taken roster (post bytes) (Ok (Figure c)) before = before
+with_taken roster (post bytes) (Err refusal) before = before
 with_taken roster (balance m) a before = before
 with_taken roster (account n) a before = before
 

@@ -1,13 +1,14 @@
 -- The laws that hold after every event of every run. Assumes nothing.
-use Rattle.std.specs.Prelude.{◌≡◌, ℕ, zero, suc, ◌<◌, List, length, ℤ, pos, ◌+ℤ◌, neg_ℤ, None, Ok}
+use Rattle.std.specs.Prelude.{◌≡◌, ℕ, zero, suc, ◌<◌, List, length, ℤ, pos, ◌+ℤ◌, neg_ℤ, None, Ok, Err, Result}
+use Rattle.refusal.specs.declared.Refusal.{Refusal}
 use Rattle.register.specs.Taken.{latest, keys, Admitted}
 use Rattle.postings.specs.declared.posting.Side.{Side}
 use Rattle.postings.specs.declared.posting.Key.{Key}
 use Rattle.postings.specs.Postings.{Said, bill, key_of, shape}
 use Rattle.record.specs.Reading.{reading}
 use Rattle.day.specs.declared.account.Account.TheVariants.{Rounding, Neutrality, PassThrough}
-use Rattle.day.specs.declared.calls.Answer.{Answer}
-use Rattle.day.specs.declared.calls.Answer.TheVariants.{Taken, Figure, Refused}
+use Rattle.day.specs.declared.calls.Reply.{Reply}
+use Rattle.day.specs.declared.calls.Reply.TheVariants.{Taken, Figure}
 use Rattle.day.specs.Accounts.{account_number}
 use Rattle.day.specs.Days.{State}
 use Rattle.day.specs.Requests.{post, balance, account}
@@ -22,7 +23,7 @@ abbrev pub TakenExactlyWhen : Type 0
 TakenExactlyWhen =
     (o : Opening) (es : List Event) (s : State) → Run o es s →
     (bytes : List ℕ) (said : Said) → reading o.roster bytes ≡ Ok said →
-    ExactlyWhen (answer s (post bytes) ≡ Taken) (Admitted shape o.places said (records_taken o.roster es))
+    ExactlyWhen (answer s (post bytes) ≡ Ok Taken) (Admitted shape o.places said (records_taken o.roster es))
 
 -- A bill is taken exactly when none was taken under its key and fewer keys than places were taken: it is never replaced.
 abbrev pub BillTakenExactlyWhen : Type 0
@@ -30,15 +31,15 @@ BillTakenExactlyWhen =
     (o : Opening) (es : List Event) (s : State) → Run o es s →
     (bytes : List ℕ) (said : Said) → reading o.roster bytes ≡ Ok said →
     (member number : ℕ) (side : Side) (amount : ℤ) → said.terms ≡ bill member number side amount →
-    ExactlyWhen (answer s (post bytes) ≡ Taken)
+    ExactlyWhen (answer s (post bytes) ≡ Ok Taken)
     ((latest shape (key_of said) (records_taken o.roster es) ≡ None) × (keys shape (records_taken o.roster es) < o.places))
 
 -- what the questions answer, by the history alone
 pub record FiguresOf (o : Opening) (es : List Event) (s : State) : Type 0 where
-  pub balances : (m : ℕ) → m < length o.roster.members → answer s (balance m) ≡ Figure (cents (bills_of o.roster es m))
-  pub rounding : answer s (account (account_number Rounding)) ≡ Figure (cents (pos 0))
-  pub neutrality : answer s (account (account_number Neutrality)) ≡ Figure (cents (pos 0))
-  pub pass_through : answer s (account (account_number PassThrough)) ≡ Figure (cents (neg_ℤ (all_bills o.roster es)))
+  pub balances : (m : ℕ) → m < length o.roster.members → answer s (balance m) ≡ Ok (Figure (cents (bills_of o.roster es m)))
+  pub rounding : answer s (account (account_number Rounding)) ≡ Ok (Figure (cents (pos 0)))
+  pub neutrality : answer s (account (account_number Neutrality)) ≡ Ok (Figure (cents (pos 0)))
+  pub pass_through : answer s (account (account_number PassThrough)) ≡ Ok (Figure (cents (neg_ℤ (all_bills o.roster es))))
 
 -- Each balance is the member's bills, rounding and neutrality are 0, and pass-through is all bills reversed.
 abbrev pub BalancesAreBills : Type 0
@@ -50,10 +51,10 @@ sum_below f zero = pos 0
 sum_below f (suc n) = sum_below f n +ℤ f n
 
 -- the figure in an answer
-abbrev pub figure_in : Answer → ℤ
-figure_in Taken = pos 0
-figure_in (Figure c) = c.0
-figure_in (Refused refusal) = pos 0
+abbrev pub figure_in : Result Reply Refusal → ℤ
+figure_in (Ok Taken) = pos 0
+figure_in (Ok (Figure c)) = c.0
+figure_in (Err refusal) = pos 0
 
 -- Balances and accounts add up to zero.
 abbrev pub AddsUpToZero : Type 0

@@ -1,7 +1,8 @@
 -- Runs: an opened day and the calls made of it, with what it answered. Assumes nothing.
-use Rattle.std.specs.Prelude.{◌≡◌, ℕ, List, [], ◌∷◌, Ok}
+use Rattle.std.specs.Prelude.{◌≡◌, ℕ, List, [], ◌∷◌, Ok, Result}
+use Rattle.refusal.specs.declared.Refusal.{Refusal}
 use Rattle.roster.specs.Rosters.{Lines, opening}
-use Rattle.day.specs.declared.calls.Answer.{Answer}
+use Rattle.day.specs.declared.calls.Reply.{Reply}
 use Rattle.day.specs.Days.{State, fresh}
 use Rattle.day.specs.Requests.{Request}
 use Rattle.day.specs.Answers.{answer, after}
@@ -14,7 +15,7 @@ pub record Opening : Type 0 where
 -- a call with its answer
 pub record Event : Type 0 where
   pub request : Request
-  pub answer : Answer
+  pub answer : Result Reply Refusal
 
 -- the history of a day, the newest event first, and the state that it led to
 pub data Run (o : Opening) : List Event → State → Type 0 where

@@ -8,7 +8,7 @@ ghost use Rattle.day.specs.States.{state_of};
 ghost use Rattle.history.specs.Runs.{Opening, Event, Run, play, events, with_events};
 ghost use Rattle.history.specs.Laws.{TakenExactlyWhen, BillTakenExactlyWhen, BalancesAreBills, AddsUpToZero, FiguresDependOnHoldingsAlone};
 
-use day::{Answer, Call, OpenDay, make};
+use day::{Answer, Call, OpenDay};
 use std::alloc::{AllocError, Global};
 
 // Makes the calls, and hands back their answers, one for one. Where memory for the answers is wanting, no call is made.
@@ -27,12 +27,10 @@ pub fn replay(
     ensures zero { AddsUpToZero }
     ensures holdings { FiguresDependOnHoldingsAlone }
 {
-    let mut given = match Vec::with_capacity(heap, calls.len()) {
-        Ok(given) => given,
-        Err(wanting) => return Err(wanting),
-    };
+    // All memory is asked for before the first call, so each answer finds its room.
+    let mut given = Vec::with_capacity(heap, calls.len())?;
     for call in calls {
-        given.push_reserved(make(day, call));
+        given.push_reserved(day.make(call));
     }
     Ok(given)
 }

@@ -1,4 +1,4 @@
-pub mod Cuts
 pub mod Ends
-pub mod Folders
 pub mod Numbers
+pub mod Places
+pub mod Requests

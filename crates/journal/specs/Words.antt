@@ -1,6 +1,9 @@
 -- Words of a line, and numbers in digits. Assumes nothing.
-use Rattle.std.specs.Prelude.{ℕ, ◌+◌, ◌-◌, ◌*◌, ◌^◌, Bool, cond, ◌&&◌, ◌||◌, List, [], ◌∷◌, Some, None, Option, ◌==◌, nat_le, nat_lt}
-use Rattle.journal.specs.Bytes.{until, from}
+use Rattle.std.specs.Prelude.{ℕ, ◌^◌, Bool, cond, ◌&&◌, ◌||◌, not, List, length, Some, None, Option, ◌==◌, nat_lt}
+use Rattle.std.specs.List.{before_first}
+use Rattle.std.specs.Str.{all_ascii_digits}
+use Rattle.std.specs.Str.Parse.{digits_value}
+use Rattle.journal.specs.Cuts.{from_first}
 
 -- a space or a tab
 abbrev pub is_separator : ℕ → Bool
@@ -8,34 +11,19 @@ is_separator b = b == 32 || b == 9
 
 -- the text from its first byte that is no separator
 abbrev pub past_separators : List ℕ → List ℕ
-past_separators [] = []
-past_separators (b ∷ bs) = cond (is_separator b) (past_separators bs) (b ∷ bs)
+past_separators bs = from_first (λ b. not (is_separator b)) bs
 
 -- the first word, and what follows it
 abbrev pub word_of : List ℕ → List ℕ
-word_of bs = until is_separator (past_separators bs)
+word_of bs = before_first is_separator (past_separators bs)
 
 abbrev pub after_word : List ℕ → List ℕ
-after_word bs = from is_separator (past_separators bs)
+after_word bs = from_first is_separator (past_separators bs)
 
-abbrev pub is_digit : ℕ → Bool
-is_digit b = nat_le 48 b && nat_le b 57
-
--- the number that the digits write after n
-abbrev pub number_after : ℕ → List ℕ → Option ℕ
-number_after n [] = Some n
-number_after n (b ∷ bs) = cond (is_digit b) (number_after (n * 10 + (b - 48)) bs) None
-
--- the number, where it is below 2^64
-abbrev pub below_limit : Option ℕ → Option ℕ
-below_limit None = None
-below_limit (Some n) = cond (nat_lt n (2 ^ 64)) (Some n) None
+-- digits, at least one, of a number below 2^64
+abbrev pub is_number : List ℕ → Bool
+is_number word = nat_lt 0 (length word) && all_ascii_digits word && nat_lt (digits_value 10 word) (2 ^ 64)
 
 -- the number that a word writes
 abbrev pub number_of : List ℕ → Option ℕ
-number_of [] = None
-number_of (b ∷ bs) = below_limit (number_after 0 (b ∷ bs))
-
--- a digit behind a number, where what they write is below 2^64
-abbrev pub with_digit : ℕ → ℕ → Option ℕ
-with_digit n b = cond (is_digit b) (below_limit (Some (n * 10 + (b - 48)))) None
+number_of word = cond (is_number word) (Some (digits_value 10 word)) None

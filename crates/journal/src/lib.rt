@@ -2,6 +2,7 @@
 
 #![tactic(auto)]
 
+mod cuts;
 pub mod lines;
 pub mod paths;
 pub mod read;

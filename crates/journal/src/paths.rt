@@ -9,21 +9,15 @@ use std::alloc::{AllocError, Global};
 fn folder(path: &[u8]) -> &[u8]
     ensures { result.now ≡ folder_of path.now }
 {
-    let mut left = path;
-    while let [front @ .., last] = left {
-        if *last == b'/' {
-            break;
-        }
-        left = front;
-    }
-    left
+    let from_end = path.iter().rev().position(|b| *b == b'/');
+    &path[..path.len() - from_end.unwrap_or(path.len())]
 }
 
 // The path of a file that a journal names: from the journal's own folder, unless it is absolute.
 pub fn located(heap: Global, journal: &[u8], file: &[u8]) -> Result<Vec<u8>, AllocError>
     ensures { IfOk result (λ path. path.items ≡ path_from journal.now file.now) }
 {
-    if let [b'/', ..] = file {
+    if file.starts_with(b"/") {
         return Vec::from_slice(heap, file);
     }
     let mut path = Vec::from_slice(heap, folder(journal))?;

@@ -1,6 +1,7 @@
 //! The lines of a journal one after the other.
 
-ghost use Rattle.std.specs.Prelude.{◌≡◌, ◌+◌, ◌-◌, ◌^◌, ◌<◌, min, length, MatchOption, OnSome};
+ghost use Rattle.std.specs.Prelude.{◌≡◌, ◌+◌, ◌-◌, ◌^◌, min, length, MatchOption};
+ghost use Rattle.std.specs.Iterator.{at_most};
 ghost use Rattle.journal.specs.Lines.{line_of, after_line};
 
 use crate::lines::split_line;
@@ -22,14 +23,17 @@ impl<'a> Lines<'a> {
             number: 0,
         }
     }
+}
 
-    // The next line with its number, from 1.
-    pub fn next(&mut self) -> Option<(u64, &'a [u8])>
-        ensures line { MatchOption result (length self.old.rest.now ≡ 0) (λ x. (x.0 ≡ self.new.number) × (x.1.now ≡ line_of self.old.rest.now)) }
-        ensures rest { self.new.rest.now ≡ after_line self.old.rest.now }
-        ensures number { MatchOption result (self.new.number ≡ self.old.number) (λ _. self.new.number ≡ min (self.old.number + 1) (2 ^ 64 - 1)) }
-        ensures shorter { OnSome result (length self.new.rest.now < length self.old.rest.now) }
-    {
+// Each line with its number, from 1.
+impl<'a> Iterator for Lines<'a> {
+    type Item = (u64, &'a [u8]);
+
+    ghost next_gives = { λ s r t. (t.rest.now ≡ after_line s.rest.now) × MatchOption r ((length s.rest.now ≡ 0) × (t.number ≡ s.number)) (λ x. (x.0 ≡ t.number) × (x.1.now ≡ line_of s.rest.now) × (t.number ≡ min (s.number + 1) (2 ^ 64 - 1))) };
+
+    ghost remaining = { λ s. at_most (length s.rest.now) };
+
+    fn next(&mut self) -> Option<(u64, &'a [u8])> {
         if self.rest.is_empty() {
             return None;
         }

@@ -8,16 +8,13 @@ use Rattle.mileage.specs.Mileage.{paid, kw_per_mw, price_limit, payment_limit}
 use Rattle.mileage.proofs.Products.{within_product}
 
 cents_within : (z : ℤ) → Within (mileage_limit * price_limit * full_accuracy) z → Within payment_limit (floor_div z (kw_per_mw * full_accuracy))
-cents_within (pos n) w = let high = w.1 in (omega (arith, ints), omega (arith, ints))
+cents_within (pos n) w = (omega (arith, ints), omega (arith, ints))
 cents_within (negsuc n) w = absurd w.0.le
 
-paid_within : (part price accuracy : ℤ) → Within mileage_limit part → Within price_limit price → Within full_accuracy accuracy → Within payment_limit (paid part price accuracy)
+pub paid_within : (part price accuracy : ℤ) → Within mileage_limit part → Within price_limit price → Within full_accuracy accuracy → Within payment_limit (paid part price accuracy)
 paid_within part price accuracy w v u =
     cents_within (part *ℤ price *ℤ accuracy)
     (within_product (mileage_limit * price_limit) full_accuracy (part *ℤ price) accuracy (within_product mileage_limit price_limit part price w v) u)
-
-trans_le : (a b c : ℤ) → a ≤ℤ b → b ≤ℤ c → a ≤ℤ c
-trans_le a b c h k = omega (arith, ints)
 
 products : (d r j p q m a : ℕ) → d + r ≤ j → p ≤ m → q ≤ m → d * p * a + r * q * a ≤ j * m * a
 products d r j p q m a parts low high =
@@ -49,18 +46,15 @@ pub record Payments (j p q a x y : ℤ) : Type 0 where
 
 pub payments : (d r j p q a x y : ℤ) → pos 0 ≤ℤ d → pos 0 ≤ℤ r → (d +ℤ r) ≤ℤ j → Within mileage_limit j → Within price_limit p → Within price_limit q → Within full_accuracy a → x ≡ paid d p a → y ≡ paid r q a → Payments j p q a x y
 payments d r j p q a x y d0 r0 sum within-j within-p within-q within_a is_x is_y =
-    let p0 = within-p.0 in let p1 = within-p.1 in
-    let q0 = within-q.0 in let q1 = within-q.1 in
-    let j1 = within-j.1 in
     let within_d : Within mileage_limit d = (d0, omega (arith, ints)) in
     let within_r : Within mileage_limit r = (r0, omega (arith, ints)) in
     let within_m : Within price_limit (int_max p q) = (omega (arith, ints, clamps), omega (arith, ints, clamps)) in
     let both : (x +ℤ y) ≤ℤ paid j (int_max p q) a =
-    rw (is_x, is_y) (paid_together d r j p q (int_max p q) a d0 r0 sum p0 q0 (omega (arith, ints, clamps)) (omega (arith, ints, clamps)) within_a.0) in
+    rw (is_x, is_y) (paid_together d r j p q (int_max p q) a d0 r0 sum within-p.0 within-q.0 (omega (arith, ints, clamps)) (omega (arith, ints, clamps)) within_a.0) in
     let most = (paid_within j (int_max p q) a within-j within_m within_a).1 in
     record {
       low_x = rw is_x (paid_within d p a within_d within-p within_a).0;
       low_y = rw is_y (paid_within r q a within_r within-q within_a).0;
       together = both;
-      high = trans_le (x +ℤ y) (paid j (int_max p q) a) (pos payment_limit) both most;
+      high = omega (arith, ints);
     }

@@ -1,5 +1,5 @@
 -- A share of a mileage and what it leaves. Assumes nothing.
-use Rattle.std.proofs.Common.{◌≡◌, ℕ, zero, suc, ◌*◌, ◌≤◌, ◌≢◌, ℤ, pos, negsuc, ◌+ℤ◌, ◌-ℤ◌, ◌*ℤ◌, ◌≤ℤ◌, Some, None, Option, refl, mul-le-mul_right, mul_comm, arith}
+use Rattle.std.proofs.Common.{◌≡◌, zero, suc, ◌*◌, ◌≤◌, ◌≢◌, ℤ, pos, negsuc, ◌+ℤ◌, ◌-ℤ◌, ◌*ℤ◌, ◌≤ℤ◌, Some, refl, mul-le-mul_right, mul_comm, arith}
 use native.Mathlib.Nat.{div-le_of_le-mul}
 use Rattle.std.proofs.lemmas.Int.{ints}
 use Rattle.units.specs.Division.{quotient}
@@ -25,17 +25,12 @@ share_high (negsuc j) s h low-j low-s high = absurd low-j.le
 
 -- the parts are together no more than the whole
 pub parts_high : (j s h d r : ℤ) → pos 0 ≤ℤ j → d ≡ share j s h → r ≡ remainder j (share j s h) h → (d +ℤ r) ≤ℤ j
-parts_high j s (pos zero) d r low-j is-d is-r = omega (arith, ints)
-parts_high j s (pos (suc h)) d r low-j is-d is-r = omega (arith, ints)
-parts_high j s (negsuc h) d r low-j is-d is-r = omega (arith, ints)
-
-none_some : (q : ℤ) → ◌≡◌ {A = Option ℤ} None (Some q) → ⊥
-none_some q e = let z : ◌≡◌ {A = ℕ} 0 1 = cc in omega arith
+parts_high j s h d r low-j is-d is-r = grind (arith, ints)
 
 quotient_share : (j s h q : ℤ) → quotient (j *ℤ s) h ≡ Some q → (q ≡ share j s h) × ((j -ℤ share j s h) ≡ remainder j (share j s h) h) × (h ≢ pos 0)
-quotient_share j s (pos zero) q e = absurd (none_some q e)
+quotient_share j s (pos zero) q e = cc
 quotient_share j s (pos (suc h)) q e = (cc, refl, λ none. omega (arith, ints))
-quotient_share j s (negsuc h) q e = absurd (none_some q e)
+quotient_share j s (negsuc h) q e = cc
 
 -- where there is a quotient q, it is the share of a schedule s that is not above the greatest h
 pub record Shared (j s h q : ℤ) : Type 0 where

@@ -1,1 +1,2 @@
 pub mod Mileage
+pub mod Awards

@@ -4,9 +4,19 @@ use Rattle.std.specs.Int.{int_max}
 use Rattle.units.specs.Bounds.{full_accuracy, mileage_limit}
 use Rattle.units.specs.Division.{floor_div}
 
--- the greater of what was scheduled day-ahead, the award and the self-provision, and the final real-time schedule
-abbrev pub greater_schedule : (award self_provision schedule : ℤ) → ℤ
-greater_schedule award self_provision schedule = int_max (award +ℤ self_provision) schedule
+-- what a site was scheduled for: the day-ahead award, the self-provision, and the final real-time schedule
+pub record Schedules : Type 0 where
+  pub award : ℤ
+  pub self_provision : ℤ
+  pub final : ℤ
+
+-- what was scheduled day-ahead: the award and the self-provision
+abbrev pub day_ahead_schedule : Schedules → ℤ
+day_ahead_schedule s = s.award +ℤ s.self_provision
+
+-- the greater of what was scheduled day-ahead and of the final real-time schedule
+abbrev pub greater_schedule : Schedules → ℤ
+greater_schedule s = int_max (day_ahead_schedule s) s.final
 
 -- a mileage's share in proportion to the part of the greatest schedule, rounded down; none where nothing is scheduled
 abbrev pub share : (mileage part greatest : ℤ) → ℤ
@@ -21,12 +31,12 @@ remainder mileage share (pos (suc h)) = mileage -ℤ share
 remainder mileage share (negsuc h) = pos 0
 
 -- the part of a mileage that is paid day-ahead
-abbrev pub day_ahead_part : (mileage award self_provision schedule : ℤ) → ℤ
-day_ahead_part mileage award self_provision schedule = share mileage (award +ℤ self_provision) (greater_schedule award self_provision schedule)
+abbrev pub day_ahead_part : ℤ → Schedules → ℤ
+day_ahead_part mileage s = share mileage (day_ahead_schedule s) (greater_schedule s)
 
 -- the part that is paid in real time: all the rest
-abbrev pub real_time_part : (mileage award self_provision schedule : ℤ) → ℤ
-real_time_part mileage award self_provision schedule = remainder mileage (day_ahead_part mileage award self_provision schedule) (greater_schedule award self_provision schedule)
+abbrev pub real_time_part : ℤ → Schedules → ℤ
+real_time_part mileage s = remainder mileage (day_ahead_part mileage s) (greater_schedule s)
 
 -- the kilowatts of a megawatt, which a price is for
 abbrev pub kw_per_mw : ℕ

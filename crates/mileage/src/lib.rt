@@ -5,5 +5,5 @@
 pub mod parts;
 pub mod payment;
 
-pub use parts::{MileageParts, MileagePayment};
+pub use parts::{MileageParts, MileagePayment, Parts, Payment};
 pub use payment::{pay, split};

@@ -1,27 +1,33 @@
-//! The two parts of a quarter's mileage, and what they are paid, within their limits.
+//! A day-ahead and a real-time part, within their limits.
 
-ghost use Rattle.std.specs.Prelude.{pos, ◌+ℤ◌, ◌≤ℤ◌};
-ghost use Rattle.units.specs.Bounds.{mileage_limit};
-ghost use Rattle.mileage.specs.Mileage.{payment_limit};
+ghost use Rattle.std.specs.Prelude.{⊤, ◌≡◌, pos, ◌+ℤ◌, ◌≤ℤ◌};
 
-use units::{Cents, Kw};
+use std::alloc::AllocError;
+use units::{Cents, Kw, Quantity, UpTo};
 
-// The mileage that was scheduled day-ahead, and the rest.
-#[derive(Clone, Copy)]
-pub struct MileageParts {
-    pub day_ahead: Kw,
-    pub real_time: Kw,
-    ghost day_ahead_low: { pos 0 ≤ℤ day_ahead.0 },
-    ghost real_time_low: { pos 0 ≤ℤ real_time.0 },
-    ghost high: { (day_ahead.0 +ℤ real_time.0) ≤ℤ pos mileage_limit },
+// A day-ahead and a real-time part, together at most the limit.
+#[derive(Copy)]
+pub struct Parts<Q: Quantity, const LIMIT: u32> {
+    pub day_ahead: UpTo<Q, LIMIT>,
+    pub real_time: UpTo<Q, LIMIT>,
+    ghost together: { (Q.amount day_ahead.value +ℤ Q.amount real_time.value) ≤ℤ pos LIMIT },
 }
+
+impl<Q: Quantity, const LIMIT: u32> Clone for Parts<Q, LIMIT> {
+    ghost is_clone = { λ x y. y ≡ x };
+
+    ghost is_infallible = { λ _. ⊤ };
+
+    fn clone(&self) -> Result<Parts<Q, LIMIT>, AllocError> {
+        Ok(*self)
+    }
+}
+
+// The mileage that was scheduled day-ahead, and the rest: together at most an adjusted mileage.
+pub type MileageParts = Parts<Kw, 11_250_000>;
+
+// What a mileage is paid: at most the greatest mileage at the highest price and full accuracy.
+pub type Payment = UpTo<Cents, 112_500_000>;
 
 // What the two parts are paid.
-#[derive(Clone, Copy)]
-pub struct MileagePayment {
-    pub day_ahead: Cents,
-    pub real_time: Cents,
-    ghost day_ahead_low: { pos 0 ≤ℤ day_ahead.0 },
-    ghost real_time_low: { pos 0 ≤ℤ real_time.0 },
-    ghost high: { (day_ahead.0 +ℤ real_time.0) ≤ℤ pos payment_limit },
-}
+pub type MileagePayment = Parts<Cents, 112_500_000>;

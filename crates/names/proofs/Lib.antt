@@ -1,3 +1,2 @@
 pub mod Comparisons
 pub mod Pieces
-pub mod Trimming

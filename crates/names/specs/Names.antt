@@ -1,7 +1,7 @@
 -- The names of a roster, and the text of a record's name field. Assumes nothing.
-use Rattle.std.specs.Prelude.{ℕ, zero, suc, ◌-◌, Bool, true, false, cond, not, ◌&&◌, List, [], ◌∷◌, ◌++◌, length, take, drop, Some, None, Ok, Err, codes, Option, Result, ◌==◌, nat_eq, nat_le, slice_index}
+use Rattle.std.specs.Prelude.{ℕ, zero, suc, ◌-◌, Bool, true, false, cond, not, ◌&&◌, ◌||◌, List, [], ◌∷◌, ◌++◌, length, take, drop, Some, None, Ok, Err, codes, Option, Result, ◌==◌, nat_eq, nat_le, slice_index}
 use Rattle.std.specs.Option.{option_map}
-use Rattle.std.specs.List.{list_all, prefix_len, suffix_len}
+use Rattle.std.specs.List.{list_all, position_or_len, before_first, suffix_len}
 use Rattle.std.specs.Str.{bytes_eq}
 use Rattle.names.specs.declared.Malformed.{Malformed}
 use Rattle.names.specs.declared.Malformed.TheVariants.{BareDelimiter}
@@ -80,9 +80,9 @@ decoded_after zero (x ∷ xs) =
 abbrev pub decoded : List ℕ → Option (List ℕ)
 decoded xs = decoded_after 0 xs
 
--- a byte that begins no piece but a plain stretch
-abbrev pub plain : ℕ → Bool
-plain b = not (b == ampersand) && not (b == less_than)
+-- a byte that does not stand for itself
+abbrev pub delimiter : ℕ → Bool
+delimiter b = b == ampersand || b == less_than
 
 -- what the first piece stands for, and the bytes after it; none where its delimiter is bare
 abbrev pub first_piece : List ℕ → Option (List ℕ × List ℕ)
@@ -90,7 +90,7 @@ first_piece [] = Some ([], [])
 first_piece (x ∷ xs) =
     cond (x == less_than) None
     (cond (x == ampersand) (option_map (λ e. (byte_of e ∷ [], drop (size e) xs)) (entity xs))
-    (Some (take (prefix_len plain (x ∷ xs)) (x ∷ xs), drop (prefix_len plain (x ∷ xs)) (x ∷ xs))))
+    (Some (before_first delimiter (x ∷ xs), drop (position_or_len delimiter (x ∷ xs)) (x ∷ xs))))
 
 -- a field without the spaces at its end
 abbrev pub trimmed_end : List ℕ → List ℕ
@@ -99,6 +99,10 @@ trimmed_end xs = take (length xs - suffix_len (λ b. nat_eq b space) xs) xs
 -- the text that a name field reads as; none where it is malformed
 abbrev pub text : List ℕ → Option (List ℕ)
 text field = decoded (trimmed_end field)
+
+-- what is said of a malformed name
+abbrev pub malformed_text : Malformed → List ℕ
+malformed_text BareDelimiter = codes "the name has a bare & or <"
 
 -- whether a text is this name
 abbrev pub compared : List ℕ → Option (List ℕ) → Result Bool Malformed

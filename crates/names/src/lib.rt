@@ -2,29 +2,21 @@
 
 #![tactic(auto)]
 
-ghost use Rattle.std.specs.Prelude.{◌≡◌, ℕ, List, ◌++◌, MatchOption, ◌≢◌};
+ghost use Rattle.std.specs.Prelude.{◌≡◌, ℕ, List, ◌++◌, MatchOption, Some, ◌≢◌};
 ghost use Rattle.std.specs.Option.{option_map};
 ghost use Rattle.std.specs.Result.{result_ok};
-ghost use Rattle.std.specs.List.{list_all, prefix_len};
-ghost use Rattle.names.specs.Names.{printable, well_formed, byte_of, size, entity, bytes_of, plain, first_piece, trimmed_end, text, compared, blank};
+ghost use Rattle.std.specs.List.{list_all, position_or_len};
+ghost use Rattle.names.specs.Names.{malformed_text, printable, well_formed, size, entity, bytes_of, delimiter, first_piece, trimmed_end, text, compared, blank};
+
+use std::error::Error;
+use std::fmt;
 
 const MAX_NAME: usize = 24;
-
-fn is_printable(byte: u8) -> bool
-    ensures { result ≡ printable byte }
-{
-    byte >= b' ' && byte <= b'~'
-}
 
 fn are_printable(bytes: &[u8]) -> bool
     ensures { result ≡ list_all printable bytes.now }
 {
-    for &byte in bytes {
-        if !is_printable(byte) {
-            return false;
-        }
-    }
-    true
+    bytes.iter().all(|byte| matches!(byte, b' '..=b'~'))
 }
 
 // Whether a name may stand in a roster.
@@ -37,14 +29,14 @@ pub fn is_well_formed(name: &[u8]) -> bool
     }
 }
 
-// A predefined entity of XML 1.0.
+// A predefined entity of XML 1.0, numbered by the byte that it stands for.
 #[derive(Clone, Copy)]
 enum Entity {
-    Amp,
-    Lt,
-    Gt,
-    Apos,
-    Quot,
+    Amp = b'&' as isize,
+    Lt = b'<' as isize,
+    Gt = b'>' as isize,
+    Apos = b'\'' as isize,
+    Quot = b'"' as isize,
 }
 
 impl Entity {
@@ -62,19 +54,7 @@ impl Entity {
         }
     }
 
-    fn byte(self) -> u8
-        ensures { result ≡ byte_of self }
-    {
-        match self {
-            Entity::Amp => b'&',
-            Entity::Lt => b'<',
-            Entity::Gt => b'>',
-            Entity::Apos => b'\'',
-            Entity::Quot => b'"',
-        }
-    }
-
-    // How many bytes its escape has after the ampersand.
+    // How many bytes its escape has after the ampersand. If `read` gave the bytes after the escape, its last arm would not be proved.
     fn len(self) -> usize
         ensures { result ≡ size self }
     {
@@ -87,11 +67,23 @@ impl Entity {
 }
 
 // Why a field has no text.
-#[derive(Clone, Copy)]
+#[derive(Clone, Copy, Debug, PartialEq, Eq)]
 pub enum Malformed {
     // An ampersand that begins no escape, or a less-than sign.
     BareDelimiter,
 }
+
+impl fmt::Display for Malformed {
+    ghost output = { λ x. Some (malformed_text x) };
+
+    fn fmt<W: fmt::Write>(&self, f: &mut fmt::Formatter<W>) -> fmt::Result {
+        match self {
+            Malformed::BareDelimiter => f.write_str("the name has a bare & or <"),
+        }
+    }
+}
+
+impl Error for Malformed {}
 
 // A stretch of bytes that stand for themselves, or one escape.
 #[derive(Clone, Copy)]
@@ -102,51 +94,49 @@ enum Piece<'a> {
 
 // How many bytes at the front stand for themselves.
 fn plain_len(bytes: &[u8]) -> usize
-    ensures { result ≡ prefix_len plain bytes.now }
+    ensures { result ≡ position_or_len delimiter bytes.now }
 {
-    for (i, &byte) in bytes.iter().enumerate() {
-        if byte == b'&' || byte == b'<' {
-            return i;
-        }
-    }
-    bytes.len()
+    bytes
+        .iter()
+        .position(|byte| matches!(byte, b'&' | b'<'))
+        .unwrap_or(bytes.len())
 }
 
-// The first piece of a text, and the bytes after it.
-fn first_piece<'a>(bytes: &'a [u8]) -> Result<(Piece<'a>, &'a [u8]), Malformed>
-    ensures { option_map (λ p. (bytes_of p.0, p.1.now)) (result_ok result) ≡ first_piece bytes.now }
-{
-    match bytes {
-        [b'&', after @ ..] => match Entity::read(after) {
-            Some(entity) => Ok((Piece::Escape(entity), &after[entity.len()..])),
-            None => Err(Malformed::BareDelimiter),
-        },
-        [b'<', ..] => Err(Malformed::BareDelimiter),
-        _ => {
-            let (plain, rest) = bytes.split_at(plain_len(bytes));
-            Ok((Piece::Plain(plain), rest))
+impl<'a> Piece<'a> {
+    // The first piece of a text, and the bytes after it.
+    fn read(bytes: &'a [u8]) -> Result<(Piece<'a>, &'a [u8]), Malformed>
+        ensures { option_map (λ p. (bytes_of p.0, p.1.now)) (result_ok result) ≡ first_piece bytes.now }
+    {
+        match bytes {
+            [b'&', after @ ..] => match Entity::read(after) {
+                Some(entity) => Ok((Piece::Escape(entity), &after[entity.len()..])),
+                None => Err(Malformed::BareDelimiter),
+            },
+            [b'<', ..] => Err(Malformed::BareDelimiter),
+            _ => {
+                let (plain, rest) = bytes.split_at(plain_len(bytes));
+                Ok((Piece::Plain(plain), rest))
+            }
+        }
+    }
+
+    // What is left of a name after the piece, where the name begins with it.
+    fn strip_from<'n>(self, name: &'n [u8]) -> Option<&'n [u8]>
+        ensures { MatchOption result ((rest : List ℕ) → name.now ≢ bytes_of self.entry ++ rest) (λ x. name.now ≡ bytes_of self.entry ++ x.now) }
+    {
+        match self {
+            Piece::Plain(bytes) => name.strip_prefix(bytes),
+            Piece::Escape(entity) => name.strip_prefix(&[entity as u8]),
         }
     }
 }
 
+// A field without the spaces at its end.
 fn trim_end(field: &[u8]) -> &[u8]
     ensures { result.now ≡ trimmed_end field.now }
 {
-    let mut left = field;
-    while let [front @ .., b' '] = left {
-        left = front;
-    }
-    left
-}
-
-// What is left of a name after the piece, where the name begins with it.
-fn strip_piece<'a>(name: &'a [u8], piece: Piece<'_>) -> Option<&'a [u8]>
-    ensures { MatchOption result ((rest : List ℕ) → name.now ≢ bytes_of piece.entry ++ rest) (λ x. name.now ≡ bytes_of piece.entry ++ x.now) }
-{
-    match piece {
-        Piece::Plain(bytes) => name.strip_prefix(bytes),
-        Piece::Escape(entity) => name.strip_prefix(&[entity.byte()]),
-    }
+    let spaces = field.iter().rev().take_while(|byte| **byte == b' ').count();
+    &field[..field.len() - spaces]
 }
 
 // Whether the text of a field is this name.
@@ -154,17 +144,15 @@ pub fn reads_as(field: &[u8], name: &[u8]) -> Result<bool, Malformed>
     ensures { result ≡ compared name.now (text field.now) }
 {
     let mut rest = trim_end(field);
-    let mut left = name;
-    let mut agrees = true;
+    let mut left = Some(name);
     while !rest.is_empty() {
-        let (piece, after) = first_piece(rest)?;
-        match strip_piece(left, piece) {
-            Some(next) => left = next,
-            None => agrees = false,
+        let (piece, after) = Piece::read(rest)?;
+        if let Some(begun) = left {
+            left = piece.strip_from(begun);
         }
         rest = after;
     }
-    Ok(agrees && left.is_empty())
+    Ok(matches!(left, Some([])))
 }
 
 // Whether the text of a field is empty.

@@ -9,6 +9,6 @@ pub mod quarter;
 mod unavailability;
 
 pub use cause::Cause;
-pub use figures::{HourNoPay, NoPay};
+pub use figures::{Figures, NoPay};
 pub use hour::hour_figures;
 pub use quarter::no_pay;

@@ -1,17 +1,16 @@
 //! What a site was not available for in a quarter, and the cause that counts.
 
-ghost use Rattle.std.specs.Prelude.{◌≡◌};
-ghost use Rattle.units.specs.Bounds.{Within};
+ghost use Rattle.std.specs.Prelude.{◌≡◌, int_le};
+ghost use Rattle.std.specs.List.{find};
 ghost use Rattle.watch.specs.Assessed.{available, room_of};
-ghost use Rattle.nopay.specs.NoPay.{schedule_limit, room as room_in, beyond_room, quantity, first_greatest, causes as causes_in_order, governing_cause, Governs};
+ghost use Rattle.nopay.specs.NoPay.{room, beyond_room, quantity, greatest, first_greatest};
 
 use crate::cause::Cause;
-use postings::Award;
-use units::{Direction, Kw};
+use units::{Direction, Kw, UpTo};
 use watch::{Availability, Room};
 
 // The causes in order: of those with equal quantities the first counts.
-const CAUSES: [Cause; 5] = [
+pub(crate) const CAUSES: [Cause; 5] = [
     Cause::Outage,
     Cause::OffControl,
     Cause::Link,
@@ -19,80 +18,99 @@ const CAUSES: [Cause; 5] = [
     Cause::OutOfRange,
 ];
 
-fn room(availability: &Availability, direction: Direction) -> Option<Room>
-    ensures { room_of result ≡ room_in (available availability.now) direction }
-{
-    match direction {
-        Direction::Up => availability.room_up,
-        Direction::Down => availability.room_down,
-    }
+// What a site was not available for: at most the highest schedule.
+pub(crate) type Unavailable = UpTo<Kw, 20_000>;
+
+const NOTHING: Unavailable = UpTo { value: Kw(0) };
+
+// What was scheduled in a direction, and how the site was available.
+#[derive(Clone, Copy)]
+pub(crate) struct Unavailability {
+    pub schedule: UpTo<Kw, 20_000>,
+    pub availability: Availability,
+    pub direction: Direction,
 }
 
-// What a schedule has beyond the room to move; nothing where the site is exempt.
-fn beyond_room(award: &Award, room: Option<Room>) -> Kw
-    ensures value { result.0 ≡ beyond_room award.now.schedule.0 (room_of room) }
-    ensures within { Within schedule_limit result.0 }
-{
-    match room {
-        Some(room) => Kw(0.max(award.schedule.0 - room.value.0)),
-        None => Kw(0),
-    }
-}
-
-// What a site was not available for by one cause.
-pub(crate) fn quantity(
-    cause: Cause,
-    award: &Award,
-    availability: &Availability,
-    direction: Direction,
-) -> Kw
-    ensures value { result.0 ≡ quantity award.now.schedule.0 (available availability.now) direction cause }
-    ensures within { Within schedule_limit result.0 }
-{
-    let is_unavailable = match cause {
-        Cause::NoCause => false,
-        Cause::Outage => availability.outage,
-        Cause::OffControl => availability.off_control,
-        Cause::Link => availability.link_down,
-        Cause::Constrained => return beyond_room(award, room(availability, direction)),
-        Cause::OutOfRange => availability.tripped,
-    };
-    if is_unavailable {
-        award.schedule
-    } else {
-        Kw(0)
-    }
-}
-
-// The first of the causes with the greatest quantity.
-fn first_greatest(
-    causes: &[Cause],
-    award: &Award,
-    availability: &Availability,
-    direction: Direction,
-) -> Cause
-    ensures value { result ≡ first_greatest (quantity award.now.schedule.0 (available availability.now) direction) causes.now }
-    ensures governs { Governs (quantity award.now.schedule.0 (available availability.now) direction) causes.now result }
-{
-    let mut first = Cause::NoCause;
-    for cause in causes {
-        if quantity(first, award, availability, direction).0
-            < quantity(*cause, award, availability, direction).0
-        {
-            first = *cause;
+impl Unavailability {
+    fn room(self) -> Option<Room>
+        ensures { room_of result ≡ room (available self.availability) self.direction }
+    {
+        match self.direction {
+            Direction::Up => self.availability.room_up,
+            Direction::Down => self.availability.room_down,
         }
     }
-    first
-}
 
-// The cause that counts: none where the site was available for all.
-pub(crate) fn governing_cause(
-    award: &Award,
-    availability: &Availability,
-    direction: Direction,
-) -> Cause
-    ensures value { result ≡ governing_cause award.now.schedule.0 (available availability.now) direction }
-    ensures governs { Governs (quantity award.now.schedule.0 (available availability.now) direction) causes_in_order result }
-{
-    first_greatest(&CAUSES, award, availability, direction)
+    // What the schedule has beyond the room to move; nothing where the site is exempt.
+    fn beyond_room(self) -> Unavailable
+        ensures { result.value.0 ≡ beyond_room self.schedule.value.0 (room (available self.availability) self.direction) }
+    {
+        match self.room() {
+            Some(room) => UpTo {
+                value: Kw(0).max(self.schedule.value - room.value),
+            },
+            None => NOTHING,
+        }
+    }
+
+    // By one cause.
+    fn quantity(self, cause: Cause) -> Unavailable
+        ensures { result.value.0 ≡ quantity self.schedule.value.0 (available self.availability) self.direction cause }
+    {
+        let is_unavailable = match cause {
+            Cause::Outage => self.availability.outage,
+            Cause::OffControl => self.availability.off_control,
+            Cause::Link => self.availability.link_down,
+            Cause::Constrained => return self.beyond_room(),
+            Cause::OutOfRange => self.availability.tripped,
+        };
+        if is_unavailable {
+            self.schedule
+        } else {
+            NOTHING
+        }
+    }
+
+    // The greatest of the causes' quantities.
+    pub(crate) fn greatest(self, causes: &[Cause]) -> Unavailable
+        ensures { result.value.0 ≡ greatest (quantity self.schedule.value.0 (available self.availability) self.direction) causes.now }
+    {
+        let mut greatest = NOTHING;
+        // A loop keeps the limit of the greatest so far; after a `fold` neither the limit nor the result was proved.
+        for cause in causes {
+            greatest = UpTo {
+                value: greatest.value.max(self.quantity(*cause).value),
+            };
+        }
+        greatest
+    }
+
+    // Whether the quantity by a cause is not below an amount.
+    fn reaches(self, amount: Kw, cause: Cause) -> bool
+        ensures { result ≡ int_le amount.0 (quantity self.schedule.value.0 (available self.availability) self.direction cause) }
+    {
+        amount <= self.quantity(cause).value
+    }
+
+    // The first of the causes whose quantity is not below an amount.
+    fn first_reaching(self, amount: Kw, causes: &[Cause]) -> Option<Cause>
+        ensures { result ≡ find (λ c. int_le amount.0 (quantity self.schedule.value.0 (available self.availability) self.direction c)) causes.now }
+    {
+        causes
+            .iter()
+            .find(|cause| self.reaches(amount, **cause))
+            .copied()
+    }
+
+    // The first of the causes with the greatest quantity; none where the site was available for all.
+    #[tactic(auto, using(crate::proofs::Greatest::first))]
+    pub(crate) fn first_greatest(self, causes: &[Cause]) -> Option<Cause>
+        ensures { result ≡ first_greatest (quantity self.schedule.value.0 (available self.availability) self.direction) causes.now }
+    {
+        let greatest = self.greatest(causes).value;
+        if greatest <= Kw(0) {
+            return None;
+        }
+        self.first_reaching(greatest, causes)
+    }
 }

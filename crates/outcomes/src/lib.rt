@@ -4,4 +4,4 @@
 
 pub mod outcome;
 
-pub use outcome::{Label, Outcome, Reason, Tally, report};
+pub use outcome::{Failure, Label, Outcome, Reason, Tally, report};

@@ -1,10 +1,10 @@
 -- What a record says, as plain data, and the key that it is held under. Assumes nothing.
-use Rattle.std.specs.Prelude.{ℕ, Bool, ◌&&◌, ℤ, neg_ℤ, ◌==◌}
+use Rattle.std.specs.Prelude.{ℕ, Bool, true, false, ◌&&◌, ℤ, neg_ℤ, ◌==◌}
 use Rattle.refusal.specs.declared.Document.TheVariants.{Record}
 use Rattle.register.specs.Shapes.{Shape}
 use Rattle.units.specs.declared.bounds.Direction.{Direction}
-use Rattle.postings.specs.declared.posting.Kind.{Kind}
-use Rattle.postings.specs.declared.posting.Kind.TheVariants.{Award as AWD, Mileage as MIL, Capacity as CAP, Obligation as OBL, Bill as BIL}
+use Rattle.postings.specs.declared.posting.Subject.{Subject}
+use Rattle.postings.specs.declared.posting.Subject.TheVariants.{Award as AWD, Mileage as MIL, Capacity as CAP, Obligation as OBL, Bill as BIL}
 use Rattle.postings.specs.declared.posting.Side.{Side}
 use Rattle.postings.specs.declared.posting.Side.TheVariants.{Charge, Credit}
 use Rattle.postings.specs.declared.posting.Content.{Content}
@@ -30,11 +30,11 @@ pub record Said : Type 0 where
   pub terms : Terms
 
 abbrev pub terms_of : Content → Terms
-terms_of (Award a) = award a.site.value a.day_ahead.0 a.self_provision.0 a.real_time.0 a.schedule.0 a.disqualified.0
-terms_of (Mileage m) = mileage m.day_ahead.0 (price_at m.real_time 0) (price_at m.real_time 1) (price_at m.real_time 2) (price_at m.real_time 3)
-terms_of (Capacity c) = capacity c.day_ahead.0 c.real_time.0
-terms_of (Obligation o) = obligation o.member.value o.quantity.0
-terms_of (Bill b) = bill b.member.value b.number.value b.side b.amount.0
+terms_of (Award a) = award a.site.value a.day_ahead.value.0 a.self_provision.value.0 a.real_time.value.0 a.schedule.value.0 a.disqualified.value.0
+terms_of (Mileage m) = mileage m.day_ahead.value.0 (price_at m.real_time 0) (price_at m.real_time 1) (price_at m.real_time 2) (price_at m.real_time 3)
+terms_of (Capacity c) = capacity c.day_ahead.value.0 c.real_time.value.0
+terms_of (Obligation o) = obligation o.member.value o.quantity.value.0
+terms_of (Bill b) = bill b.member.value b.number.0.value b.side b.amount.value.0
 
 abbrev pub version_of : Content → ℕ
 version_of (Award a) = a.version.value
@@ -47,31 +47,28 @@ version_of (Bill b) = 0
 abbrev pub said : Posting → Said
 said p = record { direction = p.direction; hour = p.hour.value; version = version_of p.content; terms = terms_of p.content }
 
--- the kind and the name that are part of the key, and the number of a bill
-abbrev pub key_for : Direction → ℕ → Terms → Key
-key_for d h (award site a1 a2 a3 a4 a5) = record { kind = AWD; direction = d; hour = h; name = site; number = 0 }
-key_for d h (mileage p q0 q1 q2 q3) = record { kind = MIL; direction = d; hour = h; name = 0; number = 0 }
-key_for d h (capacity p q) = record { kind = CAP; direction = d; hour = h; name = 0; number = 0 }
-key_for d h (obligation member q) = record { kind = OBL; direction = d; hour = h; name = member; number = 0 }
-key_for d h (bill member number side amount) = record { kind = BIL; direction = d; hour = h; name = member; number = number }
+-- what is posted, without its numbers
+abbrev pub subject_of : Terms → Subject
+subject_of (award site a1 a2 a3 a4 a5) = AWD site
+subject_of (mileage p q0 q1 q2 q3) = MIL
+subject_of (capacity p q) = CAP
+subject_of (obligation member q) = OBL member
+subject_of (bill member number side amount) = BIL member number
 
 abbrev pub key_of : Said → Key
-key_of s = key_for s.direction s.hour s.terms
+key_of s = record { direction = s.direction; hour = s.hour; subject = subject_of s.terms }
 
-abbrev pub kind_number : Kind → ℕ
-kind_number AWD = 0
-kind_number MIL = 1
-kind_number CAP = 2
-kind_number OBL = 3
-kind_number BIL = 4
+abbrev pub same_subject : Subject → Subject → Bool
+same_subject (AWD i) (AWD j) = i == j
+same_subject MIL MIL = true
+same_subject CAP CAP = true
+same_subject (OBL i) (OBL j) = i == j
+same_subject (BIL i m) (BIL j n) = i == j && m == n
+same_subject _ _ = false
 
 -- whether two keys are equal, part by part
 abbrev pub same_key : Key → Key → Bool
-same_key j k =
-    (kind_number j.kind == kind_number k.kind)
-    && (direction_number j.direction == direction_number k.direction
-    && (j.hour == k.hour
-    && (j.name == k.name && j.number == k.number)))
+same_key j k = direction_number j.direction == direction_number k.direction && (j.hour == k.hour && same_subject j.subject k.subject)
 
 -- how a register reads what a record says
 abbrev pub shape : Shape Said Key

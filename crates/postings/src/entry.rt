@@ -1,35 +1,35 @@
 //! A posting as an element of a register.
 
-ghost use Rattle.std.specs.Prelude.{◌≡◌, ◌≤◌, unsigned_abs};
+ghost use Rattle.std.specs.Prelude.{◌≡◌};
 ghost use Rattle.postings.specs.Postings.{posting_shape, signed};
 ghost use Rattle.postings.specs.Keys;
+ghost use Rattle.std.proofs.Common.{rules};
 
-use crate::posting::{Bill, Content, Key, Kind, Posting, Side};
+use crate::posting::{Bill, Content, Key, Posting, Side, Subject};
 use refusal::Document;
 use register::Entry;
-use units::Cents;
+use units::{Bounded, Cents};
 
 impl Entry for Posting {
     type Key = Key;
 
     ghost shape = { posting_shape };
 
+    ghost compares = { Prim.search rules };
+
     ghost decides = { Keys.decides };
 
     fn key(&self) -> Key {
-        let (kind, name, number) = match self.content {
-            Content::Award(award) => (Kind::Award, award.site.value, 0),
-            Content::Mileage(_) => (Kind::Mileage, 0, 0),
-            Content::Capacity(_) => (Kind::Capacity, 0, 0),
-            Content::Obligation(obligation) => (Kind::Obligation, obligation.member.value, 0),
-            Content::Bill(bill) => (Kind::Bill, bill.member.value, bill.number.value),
-        };
         Key {
-            kind,
             direction: self.direction,
             hour: self.hour.value,
-            name,
-            number,
+            subject: match self.content {
+                Content::Award(award) => Subject::Award(award.site.value),
+                Content::Mileage(_) => Subject::Mileage,
+                Content::Capacity(_) => Subject::Capacity,
+                Content::Obligation(obligation) => Subject::Obligation(obligation.member.value),
+                Content::Bill(bill) => Subject::Bill(bill.member.value, bill.number.0.value),
+            },
         }
     }
 
@@ -47,21 +47,17 @@ impl Entry for Posting {
     fn document(&self) -> Document {
         Document::Record
     }
-
-    fn is_under(&self, key: &Key) -> bool {
-        *key == self.key()
-    }
 }
 
 impl Bill {
     // What the bill adds to its member's balance.
-    pub fn signed(self) -> Cents
-        ensures value { result.0 ≡ signed self.side self.amount.0 }
-        ensures bound { unsigned_abs result.0 ≤ 999999 }
+    pub fn signed(self) -> Bounded<Cents, 999_999>
+        ensures { result.value.0 ≡ signed self.side self.amount.value.0 }
     {
-        match self.side {
-            Side::Charge => self.amount,
-            Side::Credit => -self.amount,
-        }
+        let value = match self.side {
+            Side::Charge => self.amount.value,
+            Side::Credit => -self.amount.value,
+        };
+        Bounded { value }
     }
 }

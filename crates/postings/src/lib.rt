@@ -7,5 +7,5 @@ pub mod posting;
 
 pub use posting::{
     Award, Bill, BillNumber, CapacityPrices, Content, Key, Kind, MileagePrices, Obligation,
-    Posting, Side,
+    Posting, Side, Subject,
 };

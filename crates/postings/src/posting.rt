@@ -1,10 +1,9 @@
 //! What a record posts: each number is kept within the limits of its kind.
 
-ghost use Rattle.std.specs.Prelude.{◌≡◌, ◌≤◌};
-ghost use Rattle.postings.specs.Limits.{Within, EachWithin};
+ghost use Rattle.std.specs.Prelude.{◌≡◌};
 
 use roster::{MemberIndex, SiteIndex};
-use units::{Cents, CentsPerMw, Direction, Hour, Kw, Version};
+use units::{Cents, CentsPerMw, Direction, Hour, Kw, UpTo, Version};
 
 #[derive(Clone, Copy, PartialEq, Eq)]
 pub enum Kind {
@@ -20,36 +19,27 @@ pub enum Kind {
 pub struct Award {
     pub version: Version,
     pub site: SiteIndex,
-    pub day_ahead: Kw,
-    pub self_provision: Kw,
-    pub real_time: Kw,
-    pub schedule: Kw,
-    pub disqualified: Kw,
-    ghost day_ahead_within: { Within 20000 day_ahead.0 },
-    ghost self_provision_within: { Within 20000 self_provision.0 },
-    ghost real_time_within: { Within 20000 real_time.0 },
-    ghost schedule_within: { Within 20000 schedule.0 },
-    ghost disqualified_within: { Within 20000 disqualified.0 },
+    pub day_ahead: UpTo<Kw, 20_000>,
+    pub self_provision: UpTo<Kw, 20_000>,
+    pub real_time: UpTo<Kw, 20_000>,
+    pub schedule: UpTo<Kw, 20_000>,
+    pub disqualified: UpTo<Kw, 20_000>,
 }
 
 // What a megawatt of mileage is paid: day-ahead, and in each quarter of the hour.
 #[derive(Clone, Copy)]
 pub struct MileagePrices {
     pub version: Version,
-    pub day_ahead: CentsPerMw,
-    pub real_time: [CentsPerMw; 4],
-    ghost day_ahead_within: { Within 10000 day_ahead.0 },
-    ghost real_time_within: { EachWithin 10000 real_time },
+    pub day_ahead: UpTo<CentsPerMw, 10_000>,
+    pub real_time: [UpTo<CentsPerMw, 10_000>; 4],
 }
 
 // What a megawatt of capacity is paid.
 #[derive(Clone, Copy)]
 pub struct CapacityPrices {
     pub version: Version,
-    pub day_ahead: CentsPerMw,
-    pub real_time: CentsPerMw,
-    ghost day_ahead_within: { Within 100000 day_ahead.0 },
-    ghost real_time_within: { Within 100000 real_time.0 },
+    pub day_ahead: UpTo<CentsPerMw, 100_000>,
+    pub real_time: UpTo<CentsPerMw, 100_000>,
 }
 
 // What a member has to provide.
@@ -57,33 +47,25 @@ pub struct CapacityPrices {
 pub struct Obligation {
     pub version: Version,
     pub member: MemberIndex,
-    pub quantity: Kw,
-    ghost quantity_within: { Within 999999 quantity.0 },
+    pub quantity: UpTo<Kw, 999_999>,
 }
 
 // A charge is owed by the member, a credit to it.
-#[derive(Clone, Copy)]
+#[derive(Clone, Copy, PartialEq, Eq)]
 pub enum Side {
     Charge,
     Credit,
 }
 
-// The number of a bill, 1 to 999.
-#[derive(Clone, Copy)]
-pub struct BillNumber {
-    pub value: u16,
-    ghost low: { 1 ≤ value },
-    ghost high: { value ≤ 999 },
-}
+// The number of a bill: it stands where other records have their version, within the same limits.
+#[derive(Clone, Copy, PartialEq, Eq)]
+pub struct BillNumber(pub Version);
 
-impl BillNumber {
-    // The number of a bill stands where other records have their version, within the same limits.
-    pub fn from_version(version: Version) -> BillNumber
-        ensures { result.value ≡ version.value }
-    {
-        BillNumber {
-            value: version.value,
-        }
+impl From<Version> for BillNumber {
+    ghost from_gives = { λ version number. number.0 ≡ version };
+
+    fn from(version: Version) -> BillNumber {
+        BillNumber(version)
     }
 }
 
@@ -93,8 +75,7 @@ pub struct Bill {
     pub number: BillNumber,
     pub member: MemberIndex,
     pub side: Side,
-    pub amount: Cents,
-    ghost amount_within: { Within 999999 amount.0 },
+    pub amount: UpTo<Cents, 999_999>,
 }
 
 #[derive(Clone, Copy)]
@@ -113,12 +94,20 @@ pub struct Posting {
     pub content: Content,
 }
 
-// What a posting is held under: a kind without a name has name 0, and only a bill has a number.
+// What a record is about: its kind, with the index of the site or the member that it names; of a bill its number too.
+#[derive(Clone, Copy, PartialEq, Eq)]
+pub enum Subject {
+    Award(u8),
+    Mileage,
+    Capacity,
+    Obligation(u8),
+    Bill(u8, u16),
+}
+
+// What a posting is held under.
 #[derive(Clone, Copy, PartialEq, Eq)]
 pub struct Key {
-    pub kind: Kind,
     pub direction: Direction,
     pub hour: u8,
-    pub name: u8,
-    pub number: u16,
+    pub subject: Subject,
 }

@@ -1,3 +1,2 @@
-pub mod Numbers
-pub mod Stages
+pub mod Limits
 pub mod Readings

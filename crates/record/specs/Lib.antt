@@ -1,2 +1,2 @@
 pub mod Reading
-pub mod Subjects
+pub mod NamedKinds

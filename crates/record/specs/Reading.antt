@@ -1,10 +1,10 @@
 -- What the bytes of a record say, or why they are turned back. Assumes nothing.
-use Rattle.std.specs.Prelude.{ℕ, zero, suc, ◌+◌, ◌-◌, ◌*◌, Bool, true, false, cond, ◌&&◌, List, [], ◌∷◌, length, take, drop, pos, Some, None, Ok, Err, codes, Option, Result, ◌==◌, nat_le, slice_index}
+use Rattle.std.specs.Prelude.{ℕ, zero, suc, ◌+◌, ◌-◌, ◌*◌, Bool, true, false, cond, ◌&&◌, List, [], ◌∷◌, length, take, drop, ℤ, pos, negsuc, Some, None, Ok, Err, codes, Option, Result, ◌==◌, nat_le, slice_index, slice_index_or}
 use Rattle.std.specs.Option.{ok_or}
 use Rattle.refusal.specs.declared.Refusal.{Refusal}
 use Rattle.refusal.specs.declared.Refusal.TheVariants.{RecordLength, UnknownKind, UnknownDirection, WrongHour, WrongVersion, MalformedName, UnknownName, WrongNumber}
 use Rattle.units.specs.declared.bounds.Direction.{Direction}
-use Rattle.units.specs.declared.bounds.Direction.TheVariants.{Up, Down}
+use Rattle.units.specs.Directions.{direction_of}
 use Rattle.names.specs.Names.{text}
 use Rattle.roster.specs.Rosters.{Lines, found, site_names}
 use Rattle.postings.specs.declared.posting.Kind.{Kind}
@@ -12,7 +12,7 @@ use Rattle.postings.specs.declared.posting.Kind.TheVariants.{Award, Mileage, Cap
 use Rattle.postings.specs.declared.posting.Side.{Side}
 use Rattle.postings.specs.declared.posting.Side.TheVariants.{Charge, Credit}
 use Rattle.postings.specs.Postings.{Terms, award, mileage, capacity, obligation, bill, Said}
-pub use Rattle.refusal.specs.Checks.{then}
+pub use Rattle.refusal.specs.Checks.{then, viewed}
 
 -- the bytes from a place on, so many of them
 abbrev pub field : ℕ → ℕ → List ℕ → List ℕ
@@ -38,7 +38,7 @@ kind_in xs =
 
 -- U or D
 abbrev pub direction_in : ℕ → Result Direction Refusal
-direction_in letter = cond (letter == 85) (Ok Up) (cond (letter == 68) (Ok Down) (Err UnknownDirection))
+direction_in letter = ok_or (direction_of letter) UnknownDirection
 
 abbrev pub digit : ℕ → Bool
 digit b = nat_le 48 b && nat_le b 57
@@ -87,28 +87,37 @@ limits_of Obligation = 999999 ∷ 0 ∷ 0 ∷ 0 ∷ 0 ∷ []
 limits_of Bill = 999999 ∷ 1 ∷ 0 ∷ 0 ∷ 0 ∷ []
 
 -- a number of six digits, at most its limit
-abbrev pub number_in : ℕ → ℕ → List ℕ → Result ℕ Refusal
-number_in index limit digits = between 0 limit (WrongNumber index) (number_after 0 digits)
+abbrev pub number_in : ℕ → ℕ → List ℕ → Result ℤ Refusal
+number_in index limit digits = viewed pos (between 0 limit (WrongNumber index) (number_after 0 digits))
 
--- a number for each limit, counted from the index
-abbrev pub numbers_in : ℕ → List ℕ → List ℕ → Result (List ℕ) Refusal
+-- a number for each limit, from the index on
+abbrev pub numbers_in : ℕ → List ℕ → List ℕ → Result (List ℤ) Refusal
 numbers_in index [] xs = Ok []
 numbers_in index (limit ∷ limits) xs =
-    then (number_in index limit (take 6 xs)) (λ n.
-    then (numbers_in (index + 1) limits (drop 6 xs)) (λ ns. Ok (n ∷ ns)))
+    then (number_in index limit (field (6 * index) 6 xs)) (λ n.
+    then (numbers_in (index + 1) limits xs) (λ ns. Ok (n ∷ ns)))
 
--- 0 is a charge, 1 a credit
-abbrev pub side_of : ℕ → Side
-side_of zero = Charge
-side_of (suc n) = Credit
+-- a charge is 0, a credit 1
+abbrev pub side_number : Side → ℕ
+side_number Charge = 0
+side_number Credit = 1
+
+abbrev pub side_of : ℤ → Side
+side_of (pos zero) = Charge
+side_of (pos (suc n)) = Credit
+side_of (negsuc n) = Credit
 
 -- the terms of a kind, by the index of its name, the number of a bill and the five numbers
-abbrev pub terms_for : Kind → ℕ → ℕ → (ℕ → ℕ) → Terms
-terms_for Award name serial n = award name (pos (n 0)) (pos (n 1)) (pos (n 2)) (pos (n 3)) (pos (n 4))
-terms_for Mileage name serial n = mileage (pos (n 0)) (pos (n 1)) (pos (n 2)) (pos (n 3)) (pos (n 4))
-terms_for Capacity name serial n = capacity (pos (n 0)) (pos (n 1))
-terms_for Obligation name serial n = obligation name (pos (n 0))
-terms_for Bill name serial n = bill name serial (side_of (n 1)) (pos (n 0))
+abbrev pub terms_for : Kind → ℕ → ℕ → (ℕ → ℤ) → Terms
+terms_for Award name serial n = award name (n 0) (n 1) (n 2) (n 3) (n 4)
+terms_for Mileage name serial n = mileage (n 0) (n 1) (n 2) (n 3) (n 4)
+terms_for Capacity name serial n = capacity (n 0) (n 1)
+terms_for Obligation name serial n = obligation name (n 0)
+terms_for Bill name serial n = bill name serial (side_of (n 1)) (n 0)
+
+-- the terms that the five numbers give
+abbrev pub terms_in : Kind → ℕ → ℕ → List ℕ → Result Terms Refusal
+terms_in kind name serial xs = viewed (λ numbers. terms_for kind name serial (λ i. slice_index_or numbers i (pos 0))) (numbers_in 0 (limits_of kind) xs)
 
 abbrev pub version_for : Kind → ℕ → ℕ
 version_for Award serial = serial
@@ -127,11 +136,6 @@ reading roster xs =
     then (hour_in (field 4 2 xs)) (λ hour.
     then (version_in (field 6 3 xs)) (λ serial.
     then (name_in roster kind (field 9 24 xs)) (λ name.
-    then (numbers_in 0 (limits_of kind) (field 33 30 xs)) (λ numbers.
-    Ok (record {
-      direction = direction;
-      hour = hour;
-      version = version_for kind serial;
-      terms = terms_for kind name serial (λ i. slice_index numbers i);
-    }))))))))
+    then (terms_in kind name serial (field 33 30 xs)) (λ terms.
+    Ok (record { direction = direction; hour = hour; version = version_for kind serial; terms = terms }))))))))
     (Err RecordLength)

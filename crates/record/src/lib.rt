@@ -3,6 +3,8 @@
 #![tactic(auto)]
 
 mod fields;
+mod kinds;
+mod numbers;
 pub mod reading;
 
 pub use reading::read;

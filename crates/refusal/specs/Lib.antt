@@ -1,2 +1,3 @@
 pub mod Checks
 pub mod Refusals
+pub mod Texts

@@ -2,19 +2,35 @@
 
 #![tactic(auto)]
 
-ghost use Rattle.std.specs.Prelude.{◌≡◌};
+ghost use Rattle.std.specs.Prelude.{◌≡◌, Some, MatchResult};
 ghost use Rattle.refusal.specs.Refusals.{number_of, layer_of, place_of, version_place};
+ghost use Rattle.refusal.specs.Texts.{layer_text, explanation};
+
+use std::error::Error;
+use std::fmt;
 
 // The layer whose check turned a call back.
-#[derive(Clone, Copy)]
+#[derive(Clone, Copy, Debug, PartialEq, Eq)]
 pub enum Layer {
     Record,
     Register,
     Day,
 }
 
+impl fmt::Display for Layer {
+    ghost output = { λ layer. Some (layer_text layer) };
+
+    fn fmt<W: fmt::Write>(&self, f: &mut fmt::Formatter<W>) -> fmt::Result {
+        f.write_str(match self {
+            Layer::Record => "record",
+            Layer::Register => "register",
+            Layer::Day => "day",
+        })
+    }
+}
+
 // What was posted: its version stands at another place in each.
-#[derive(Clone, Copy)]
+#[derive(Clone, Copy, Debug, PartialEq, Eq)]
 pub enum Document {
     Record,
     Signal,
@@ -33,7 +49,7 @@ impl Document {
     }
 }
 
-#[derive(Clone, Copy)]
+#[derive(Clone, Copy, Debug, PartialEq, Eq)]
 pub enum Refusal {
     // Opening a day.
     MemberCount,
@@ -149,4 +165,46 @@ impl Refusal {
             Refusal::NotPosted => 0,
         }
     }
+}
+
+// In a few words, for a person.
+impl fmt::Display for Refusal {
+    ghost output = { λ refusal. Some (explanation refusal) };
+
+    fn fmt<W: fmt::Write>(&self, f: &mut fmt::Formatter<W>) -> fmt::Result {
+        f.write_str(match self {
+            Refusal::MemberCount => "a roster has 1 to 16 members",
+            Refusal::SiteCount => "a roster has at most 32 sites",
+            Refusal::SiteWithoutMember(_) => "the site's member is not on the roster",
+            Refusal::BadName(_) => "the name is wrong or stands twice",
+            Refusal::RecordLength => "a record has 64 bytes, the last a newline",
+            Refusal::UnknownKind => "the kind is unknown",
+            Refusal::UnknownDirection => "the direction is not U or D",
+            Refusal::WrongHour => "the hour is not 00 to 23",
+            Refusal::WrongVersion => "the version or bill number is not 001 to 999",
+            Refusal::MalformedName => "the name is malformed, or blank or filled against its kind",
+            Refusal::UnknownName => "the name is not on the roster",
+            Refusal::WrongNumber(_) => "the number has not six digits or is past its limit",
+            Refusal::VersionNotHigher(_) => "a version as high is held, or the bill is",
+            Refusal::RegisterFull => "every place is taken",
+            Refusal::WrongPostingArgument(_) => "the argument of the posting is out of range",
+            Refusal::SignalLength => "a signal quarter has 1800 bytes",
+            Refusal::WrongSample(_) => "the sample is out of limits",
+            Refusal::WatchLength => "a watch quarter has 420 bytes",
+            Refusal::WrongMinute(_) => "the minute is bad",
+            Refusal::WrongArgument(_) => "the argument is out of range",
+            Refusal::NotPosted => "the award or the watch quarter is not posted",
+        })
+    }
+}
+
+impl Error for Refusal {}
+
+// An argument of a posting in its type, or the refusal of the argument by its index.
+pub fn read_argument<N, T: TryFrom<N>>(value: N, index: u8) -> Result<T, Refusal>
+where
+    T::Error: Drop,
+    ensures { MatchResult result (λ t. T.try_from_gives value (Ok t)) (λ refusal. (refusal ≡ Refusal.WrongPostingArgument index) × ((error : _) × T.try_from_gives value (Err error))) }
+{
+    T::try_from(value).map_err(|_| Refusal::WrongPostingArgument(index))
 }

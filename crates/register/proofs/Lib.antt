@@ -1,5 +1,5 @@
 pub mod Basics
-pub mod Places
+pub mod Positions
 pub mod Laws
 pub mod Sums
 pub mod Views

@@ -1,5 +1,5 @@
 -- What a register holds: places, each free or with an element, no two elements under one key. Assumes nothing.
-use Rattle.std.specs.Prelude.{◌≡◌, ℕ, zero, suc, ◌+◌, ◌*◌, ◌<◌, ◌≤◌, Bool, true, false, cond, ◌⊎◌, List, [], ◌∷◌, length, ℤ, pos, ◌+ℤ◌, is_some, Some, None, Ok, Err, Option, Result, nat_lt, unsigned_abs}
+use Rattle.std.specs.Prelude.{◌≡◌, ℕ, zero, suc, ◌*◌, ◌<◌, ◌≤◌, Bool, true, false, cond, ◌⊎◌, List, [], ◌∷◌, length, ℤ, pos, ◌+ℤ◌, is_some, Some, None, Ok, Err, Option, Result, nat_lt, unsigned_abs}
 use Rattle.refusal.specs.declared.Refusal.{Refusal}
 use Rattle.refusal.specs.declared.Refusal.TheVariants.{VersionNotHigher, RegisterFull}
 use Rattle.register.specs.Shapes.{Shape}
@@ -10,17 +10,10 @@ look w k [] = None
 look w k (None ∷ xs) = look w k xs
 look w k (Some x ∷ xs) = cond (w.same k (w.key x)) (Some x) (look w k xs)
 
--- the place of the element under a key, counted from i, and that element
-abbrev pub place_of : {E K : Type 0} → Shape E K → K → ℕ → List (Option E) → Option (ℕ × E)
-place_of w k i [] = None
-place_of w k i (None ∷ xs) = place_of w k (i + 1) xs
-place_of w k i (Some x ∷ xs) = cond (w.same k (w.key x)) (Some (i, x)) (place_of w k (i + 1) xs)
-
--- the first free place, counted from i
-abbrev pub free_place : {E : Type 0} → ℕ → List (Option E) → Option ℕ
-free_place i [] = None
-free_place i (None ∷ xs) = Some i
-free_place i (Some x ∷ xs) = free_place (i + 1) xs
+-- whether the element under a key stands in a place
+abbrev pub holds : {E K : Type 0} → Shape E K → K → Option E → Bool
+holds w k None = false
+holds w k (Some x) = w.same k (w.key x)
 
 -- how many elements are held
 abbrev pub count : {E : Type 0} → List (Option E) → ℕ
@@ -45,6 +38,11 @@ abbrev pub replace : {E K : Type 0} → Shape E K → List (Option E) → E → 
 replace w [] e = []
 replace w (None ∷ xs) e = None ∷ replace w xs e
 replace w (Some x ∷ xs) e = cond (w.same (w.key e) (w.key x)) (Some e ∷ xs) (Some x ∷ replace w xs e)
+
+-- whether e takes the place of what stands there: a higher version does
+abbrev pub supersedes : {E K : Type 0} → Shape E K → E → Option E → Bool
+supersedes w e None = true
+supersedes w e (Some held) = nat_lt (w.version held) (w.version e)
 
 -- what a put of e answers, where `held` is under its key: what e replaces, if anything, or why it is turned back
 abbrev pub answer_by : {E K : Type 0} → Shape E K → Option E → List (Option E) → E → Result (Option E) Refusal

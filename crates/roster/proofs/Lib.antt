@@ -1,3 +1,2 @@
-pub mod Indices
 pub mod Openings
-pub mod Positions
+pub mod Names

@@ -1,5 +1,6 @@
 -- The members of a roster and their sites, the opening question, and the look-up of a name. Assumes nothing.
-use Rattle.std.specs.Prelude.{ℕ, suc, ◌+◌, Bool, cond, not, ◌||◌, List, [], ◌∷◌, ◌++◌, map, length, is_some, Some, None, Ok, Err, Option, Result, nat_le, nat_lt}
+use Rattle.std.specs.Prelude.{ℕ, suc, ◌+◌, Bool, cond, not, ◌||◌, List, [], ◌∷◌, ◌++◌, map, length, position, Some, None, Ok, Err, Option, Result, nat_le, nat_lt}
+use Rattle.std.specs.List.{list_any}
 use Rattle.std.specs.Option.{option_map}
 use Rattle.std.specs.Str.{bytes_eq}
 use Rattle.refusal.specs.declared.Refusal.{Refusal}
@@ -31,23 +32,18 @@ roster_of r = lines_of r.members.now r.sites.now
 abbrev pub site_names : Lines → List (List ℕ)
 site_names l = map (λ s. s.name) l.sites
 
--- the index of the first that passes a test
-abbrev pub first : {A : Type 0} → (A → Bool) → List A → Option ℕ
-first test [] = None
-first test (x ∷ xs) = cond (test x) (Some 0) (option_map suc (first test xs))
-
 -- the index of a name in a row of names
-abbrev pub position : List ℕ → List (List ℕ) → Option ℕ
-position name names = first (bytes_eq name) names
+abbrev pub index_of : List ℕ → List (List ℕ) → Option ℕ
+index_of name names = position (bytes_eq name) names
 
 -- the index of the name that a text is; a malformed text names nobody
 abbrev pub found : Option (List ℕ) → List (List ℕ) → Option ℕ
 found None names = None
-found (Some name) names = position name names
+found (Some name) names = index_of name names
 
 -- a name that is not well-formed, or equals one of these
 abbrev pub wrong : List (List ℕ) → List ℕ → Bool
-wrong earlier name = not (well_formed name) || is_some (position name earlier)
+wrong earlier name = not (well_formed name) || list_any (bytes_eq name) earlier
 
 -- the index of the first wrong name in a row that comes after these
 abbrev pub wrong_after : List (List ℕ) → List (List ℕ) → Option ℕ
@@ -59,7 +55,7 @@ wrong_name names = wrong_after [] names
 
 -- the index of the first site whose member is not below the count
 abbrev pub without_member : ℕ → List SiteLine → Option ℕ
-without_member count sites = first (λ s. nat_le count s.member) sites
+without_member count sites = position (λ s. nat_le count s.member) sites
 
 -- 1 to 16 members and at most 32 sites
 abbrev pub counts : ℕ → ℕ → Result (Unit {0}) Refusal

@@ -1,6 +1,8 @@
 //! The entries of a roster, and the numbers by which it is asked for them.
 
-ghost use Rattle.std.specs.Prelude.{◌≡◌, ℕ, ◌<◌, ◌≤◌, List, MatchOption};
+ghost use Rattle.std.specs.Prelude.{◌≡◌, ℕ, List};
+
+use units::Below;
 
 // What has a name in a roster.
 pub trait Named {
@@ -40,39 +42,7 @@ impl<'a> Named for Site<'a> {
 }
 
 // A member by its index, 0 to 15.
-#[derive(Clone, Copy)]
-pub struct MemberIndex {
-    pub value: u8,
-    ghost within: { value < 16 },
-}
-
-impl MemberIndex {
-    pub(crate) fn new(value: u8) -> Option<MemberIndex>
-        ensures { MatchOption result (16 ≤ value) (λ i. i.value ≡ value) }
-    {
-        if value < 16 {
-            Some(MemberIndex { value })
-        } else {
-            None
-        }
-    }
-}
+pub type MemberIndex = Below<16>;
 
 // A site by its index, 0 to 31.
-#[derive(Clone, Copy)]
-pub struct SiteIndex {
-    pub value: u8,
-    ghost within: { value < 32 },
-}
-
-impl SiteIndex {
-    pub(crate) fn new(value: u8) -> Option<SiteIndex>
-        ensures { MatchOption result (32 ≤ value) (λ i. i.value ≡ value) }
-    {
-        if value < 32 {
-            Some(SiteIndex { value })
-        } else {
-            None
-        }
-    }
-}
+pub type SiteIndex = Below<32>;

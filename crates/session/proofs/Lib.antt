@@ -1,2 +1,1 @@
-pub mod Gatherings
 pub mod Postings

@@ -3,7 +3,7 @@
 #![tactic(auto)]
 
 pub mod calls;
-pub mod opening;
+pub mod gathering;
 
-pub use calls::{make_one, outcome_of, post, post_all, question};
-pub use opening::{RecordPlaces, Step, take_line};
+pub use calls::{answer, post_all};
+pub use gathering::{RecordPlaces, RosterLines};

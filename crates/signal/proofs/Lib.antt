@@ -1,4 +1,4 @@
 pub mod Accuracies
-pub mod Keys
+pub mod Limits
 pub mod Laws
 pub mod Running

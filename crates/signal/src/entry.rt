@@ -13,6 +13,8 @@ impl Entry for Signal {
 
     ghost shape = { element_shape };
 
+    ghost compares = { Prim.search rules };
+
     ghost decides = { Prim.search rules };
 
     fn key(&self) -> SignalKey {
@@ -30,9 +32,5 @@ impl Entry for Signal {
 
     fn document(&self) -> Document {
         Document::Signal
-    }
-
-    fn is_under(&self, key: &SignalKey) -> bool {
-        *key == self.key()
     }
 }

@@ -7,7 +7,6 @@ pub mod measured;
 pub mod quarter;
 pub mod reading;
 pub mod sample;
-mod samples;
 pub mod signal;
 mod totals;
 

@@ -1,10 +1,28 @@
-//! Numbers that the rules limit, each in a type that keeps its limits.
+//! Where in the day a posting belongs, and what its numbers may be: each in a type that keeps its limits.
 
-ghost use Rattle.std.specs.Prelude.{◌≡◌, ◌<◌, ◌≤◌, MatchOption};
+ghost use Rattle.std.specs.Prelude.{◌≡◌, ◌<◌, ◌≤◌, MatchResult, Some, codes};
+ghost use Rattle.std.specs.Result.{result_ok};
 ghost use Rattle.units.specs.Directions.{direction_of};
-ghost use Rattle.units.specs.Bounds.{Within, full_accuracy, mileage_limit};
+ghost use Rattle.units.specs.Bounds.{Within, full_accuracy};
 
+use crate::limits::UpTo;
 use crate::quantity::Kw;
+use std::error::Error;
+use std::fmt;
+
+// A number or a letter that is none of a type's values.
+#[derive(Clone, Copy, Debug, PartialEq, Eq)]
+pub struct OutOfRange;
+
+impl fmt::Display for OutOfRange {
+    ghost output = { λ _. Some (codes "out of range") };
+
+    fn fmt<W: fmt::Write>(&self, f: &mut fmt::Formatter<W>) -> fmt::Result {
+        f.write_str("out of range")
+    }
+}
+
+impl Error for OutOfRange {}
 
 // Up: the site is told to give more, down: less.
 #[derive(Clone, Copy, PartialEq, Eq)]
@@ -13,73 +31,64 @@ pub enum Direction {
     Down,
 }
 
-impl Direction {
-    // The direction that a letter stands for.
-    pub fn of(letter: u8) -> Option<Direction>
-        ensures { result ≡ direction_of letter }
-    {
+// By its letter.
+impl TryFrom<u8> for Direction {
+    type Error = OutOfRange;
+
+    ghost try_from_gives = { λ letter r. result_ok r ≡ direction_of letter };
+
+    fn try_from(letter: u8) -> Result<Direction, OutOfRange> {
         match char::from(letter) {
-            'U' => Some(Direction::Up),
-            'D' => Some(Direction::Down),
-            _ => None,
+            'U' => Ok(Direction::Up),
+            'D' => Ok(Direction::Down),
+            _ => Err(OutOfRange),
         }
     }
 }
 
-// An hour of the trading day, 0 to 23.
-#[derive(Clone, Copy)]
-pub struct Hour {
+// One of N, counted from 0.
+#[derive(Clone, Copy, PartialEq, Eq)]
+pub struct Below<const N: u8> {
     pub value: u8,
-    ghost within: { value < 24 },
+    ghost within: { value < N },
 }
 
-impl Hour {
-    pub fn new(value: u8) -> Option<Hour>
-        ensures { MatchOption result (24 ≤ value) (λ h. h.value ≡ value) }
-    {
-        if value < 24 {
-            Some(Hour { value })
-        } else {
-            None
+impl<const N: u8> TryFrom<usize> for Below<N> {
+    type Error = OutOfRange;
+
+    ghost try_from_gives = { λ number r. MatchResult r (λ b. b.value ≡ number) (λ _. N ≤ number) };
+
+    fn try_from(number: usize) -> Result<Below<N>, OutOfRange> {
+        match u8::try_from(number) {
+            Ok(value) if value < N => Ok(Below { value }),
+            _ => Err(OutOfRange),
         }
     }
 }
 
-// A quarter of an hour, 0 to 3.
-#[derive(Clone, Copy)]
-pub struct Quarter {
-    pub value: u8,
-    ghost within: { value < 4 },
-}
+// An hour of the trading day.
+pub type Hour = Below<24>;
 
-impl Quarter {
-    pub fn new(value: u8) -> Option<Quarter>
-        ensures { MatchOption result (4 ≤ value) (λ q. q.value ≡ value) }
-    {
-        if value < 4 {
-            Some(Quarter { value })
-        } else {
-            None
-        }
-    }
-}
+// A quarter of an hour.
+pub type Quarter = Below<4>;
 
 // How often a posting was corrected, 1 to 999: the higher version stands.
-#[derive(Clone, Copy)]
+#[derive(Clone, Copy, PartialEq, Eq)]
 pub struct Version {
     pub value: u16,
     ghost low: { 1 ≤ value },
     ghost high: { value ≤ 999 },
 }
 
-impl Version {
-    pub fn new(value: u16) -> Option<Version>
-        ensures { MatchOption result ((1 ≤ value) → 999 < value) (λ v. v.value ≡ value) }
-    {
-        if value >= 1 && value <= 999 {
-            Some(Version { value })
-        } else {
-            None
+impl TryFrom<usize> for Version {
+    type Error = OutOfRange;
+
+    ghost try_from_gives = { λ number r. MatchResult r (λ v. v.value ≡ number) (λ _. (1 ≤ number) → 999 < number) };
+
+    fn try_from(number: usize) -> Result<Version, OutOfRange> {
+        match u16::try_from(number) {
+            Ok(value) if value >= 1 && value <= 999 => Ok(Version { value }),
+            _ => Err(OutOfRange),
         }
     }
 }
@@ -95,9 +104,5 @@ impl Accuracy {
     pub const FULL: i64 = 10_000;
 }
 
-// The distance that a site was told to move in a quarter, less what it only made up for: 0 to 11,250,000 kW.
-#[derive(Clone, Copy)]
-pub struct AdjustedMileage {
-    pub value: Kw,
-    ghost within: { Within mileage_limit value.0 },
-}
+// The distance that a site was told to move in a quarter, less what it only made up for.
+pub type AdjustedMileage = UpTo<Kw, 11_250_000>;

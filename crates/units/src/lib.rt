@@ -4,8 +4,10 @@
 
 pub mod bounds;
 pub mod division;
+pub mod limits;
 pub mod quantity;
 
-pub use bounds::{Accuracy, AdjustedMileage, Direction, Hour, Quarter, Version};
+pub use bounds::{Accuracy, AdjustedMileage, Below, Direction, Hour, OutOfRange, Quarter, Version};
 pub use division::floor_div;
-pub use quantity::{Cents, CentsPerMw, Kw};
+pub use limits::{Bounded, Limited, UpTo};
+pub use quantity::{Cents, CentsPerMw, Kw, Quantity};

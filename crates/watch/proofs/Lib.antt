@@ -1,4 +1,3 @@
-pub mod Keys
 pub mod Verdicts
 pub mod Rooms
 pub mod Running

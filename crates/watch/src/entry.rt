@@ -13,6 +13,8 @@ impl Entry for Watch {
 
     ghost shape = { element_shape };
 
+    ghost compares = { Prim.search rules };
+
     ghost decides = { Prim.search rules };
 
     fn key(&self) -> WatchKey {
@@ -29,9 +31,5 @@ impl Entry for Watch {
 
     fn document(&self) -> Document {
         Document::Watch
-    }
-
-    fn is_under(&self, key: &WatchKey) -> bool {
-        *key == self.key()
     }
 }

@@ -7,7 +7,10 @@ use Rattle.history.proofs.replay.Given as goal
 
 abbrev pub invariant-loop-call : goal.invariant-loop-call
 invariant-loop-call l =
-    (play (state_of l.day) (map request_of (drop l.call-index l.calls)) ≡ play (state_of l.initial.day) (map request_of l.calls))
-    × (vec_items l.given ++ answers (state_of l.day) (map request_of (drop l.call-index l.calls)) ≡ answers (state_of l.initial.day) (map request_of l.calls))
-    × (vec_len l.given ≡ l.call-index)
-    × (length l.calls ≤ vec_capacity l.given)
+    let rest = map request_of (drop l.call-index l.calls) in
+    record {
+      plays : play (state_of l.day) rest ≡ play (state_of l.initial.day) (map request_of l.calls);
+      answers : vec_items l.given ++ answers (state_of l.day) rest ≡ answers (state_of l.initial.day) (map request_of l.calls);
+      so_far : vec_len l.given ≡ l.call-index;
+      room : length l.calls ≤ vec_capacity l.given;
+    }

@@ -1,20 +1,12 @@
-use Rattle.std.proofs.Common.{arith}
-use Rattle.std.proofs.lemmas.List.Sums.{prefix_len-drop_yes, prefix_len-drop_no, prefix_len-drop_all}
-use Rattle.names.specs.Names.{plain}
-use Rattle.names.proofs.Pieces.{delimiter, no_delimiter}
+use Rattle.std.proofs.Common.{rules, tests, arith}
+use Rattle.std.proofs.lemmas.Grind.{common_steps}
+use Rattle.std.proofs.lemmas.Iterator.{YieldsList-from_slice}
+use Rattle.std.proofs.lemmas.Iterator.Search.{position_from_yields_List}
+use Rattle.std.proofs.lemmas.List.Sums.{prefix_len-le-length}
+use Rattle.names.specs.Names.{delimiter}
 use Rattle.names.proofs.plain_len.Goals as goal
-
-pub returns-then-byte-eq38 : goal.returns-then-byte-eq38
-returns-then-byte-eq38 c =
-    let none = prefix_len-drop_no plain c.args.bytes.now c.loop-i.i 0 c.loop-i-test.true (delimiter _ c.then-byte-eq38.either) in
-    omega arith
-
-pub loop-i-preserved : goal.loop-i-preserved
-loop-i-preserved c =
-    let one = prefix_len-drop_yes plain c.args.bytes.now c.loop-i.i 0 c.loop-i-test.true (no_delimiter _ c.if-byte-eq38.false c.if-byte-eq60.false) in
-    omega arith
 
 pub returns : goal.returns
 returns c =
-    let none = prefix_len-drop_all plain c.args.bytes.now c.loop-i.i c.loop-i-test.false in
-    omega arith
+    let first = position_from_yields_List delimiter _ _ c.position.result c.position.ensures.ran (YieldsList-from_slice c.args.bytes.now (cc)) (λ x b q k. search (rules, tests)) in
+    grind (arith, common_steps, prefix_len-le-length)

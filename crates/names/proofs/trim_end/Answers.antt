@@ -1,15 +1,16 @@
-use Rattle.std.proofs.Common.{◌≡◌, ◌-◌, ◌<◌, length, get_or, ◌∙◌, arith, ltb-false, ltb-true}
-use Rattle.names.proofs.Trimming.{trim_less, trim_done}
+use Rattle.std.proofs.Common.{◌-◌, ◌==◌, length, take, reverse, ap, ◌∙◌, rules, tests}
+use Rattle.std.proofs.lemmas.Iterator.Adapters.{YieldsList-from_rev_slice}
+use Rattle.std.proofs.lemmas.Iterator.Consumers.{count_from_yields_List}
+use Rattle.std.proofs.lemmas.Iterator.Search.{YieldsList-from_take_while}
+use Rattle.std.proofs.lemmas.List.Folds.{length-prefix_len}
+use Rattle.names.specs.Names.{space}
 use Rattle.names.proofs.trim_end.Goals as goal
 
-pub loop-left-preserved : goal.loop-left-preserved
-loop-left-preserved c =
-    let some : 0 < length c.loop-left.left.now = omega (arith, ltb-false) in
-    let last : get_or c.loop-left.left.now (length c.loop-left.left.now - 1) 0 ≡ 32 = omega arith in
-    trim_less c.loop-left.left.now some last ∙ c.loop-left.invariant
-
-pub returns-in_default : goal.returns-in_default
-returns-in_default c = trim_done c.loop-left.left.now (λ some last. omega (arith, ltb-true)) ∙ c.loop-left.invariant
-
-pub returns-in_default-2 : goal.returns-in_default-2
-returns-in_default-2 c = trim_done c.loop-left.left.now (λ some last. omega (arith, ltb-true)) ∙ c.loop-left.invariant
+pub returns : goal.returns
+returns c =
+    let field = c.args.field.now in
+    let spaces =
+    count_from_yields_List c.take_while.result _ c.count-spaces.ensures.ran
+    (YieldsList-from_take_while _ (λ b. b == space) (YieldsList-from_rev_slice field (cc)) c.take_while.ensures.closure c.take_while.ensures.done (λ x b q k. search (rules, tests)))
+    ∙ length-prefix_len (λ b. b == space) (reverse field) in
+    ap (λ n. take (length field - n) field) spaces

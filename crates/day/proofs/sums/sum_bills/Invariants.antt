@@ -5,4 +5,6 @@ use Rattle.day.specs.Bills.{cents_for}
 use Rattle.day.proofs.sums.sum_bills.Given as goal
 
 abbrev pub invariant-loop-place : goal.invariant-loop-place
-invariant-loop-place l = l.total.0 +ℤ sum_held (λ p. cents_for l.billed (said p).terms) (drop l.place-index l.places) ≡ sum_held (λ p. cents_for l.billed (said p).terms) l.places
+invariant-loop-place l =
+    let f = λ (p : _). cents_for l.billed (said p).terms in
+    l.total.0 +ℤ sum_held f (drop l.place-index l.place-items) ≡ sum_held f l.place-items

@@ -1,14 +1,14 @@
-use Rattle.std.proofs.Common.{◌<◌, length, ◌∙◌, arith, ltb-false, ltb-true}
-use Rattle.journal.proofs.Folders.{folder_shorter, folder_whole}
+use Rattle.std.proofs.Common.{◌-◌, take, length, reverse, sym, ap, rules}
+use Rattle.std.proofs.lemmas.List.{length-reverse}
+use Rattle.std.proofs.lemmas.Iterator.Search.{position_from_yields_List}
+use Rattle.std.proofs.lemmas.Iterator.Adapters.{YieldsList-from_rev_slice}
+use Rattle.journal.specs.Paths.{is_slash}
+use Rattle.journal.proofs.Places.{first_or_length}
 use Rattle.journal.proofs.paths.folder.Goals as goal
 
-pub loop-left-preserved : goal.loop-left-preserved
-loop-left-preserved c =
-    let some : 0 < length c.loop-left.left.now = omega (arith, ltb-false) in
-    folder_shorter c.loop-left.left.now some c.if-last-eq47.false ∙ c.loop-left.invariant
-
-pub returns-in_default : goal.returns-in_default
-returns-in_default c = folder_whole c.loop-left.left.now (λ some. absurd (omega (arith, ltb-true))) ∙ c.loop-left.invariant
-
-pub returns-then-last-eq47 : goal.returns-then-last-eq47
-returns-then-last-eq47 c = folder_whole c.loop-left.left.now (λ some. c.if-last-eq47.true) ∙ c.loop-left.invariant
+pub returns : goal.returns
+returns c =
+    let path = c.args.path.now in
+    let found = position_from_yields_List is_slash _ _ c.position-from_end.result c.position-from_end.ensures.ran (YieldsList-from_rev_slice path cc) (λ x b q k. search rules) in
+    let len = first_or_length is_slash (reverse path) c.position-from_end.result (length path) c.unwrap_or.result c.unwrap_or.ensures found (sym (length-reverse path)) in
+    ap (λ n. take (length path - n) path) len

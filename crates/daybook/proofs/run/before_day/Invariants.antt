@@ -1,5 +1,0 @@
-use Rattle.std.proofs.Common.{length}
-use Rattle.daybook.proofs.run.before_day.Given as goal
-
-abbrev pub decreases-loop-number : goal.decreases-loop-number
-decreases-loop-number l = length l.lines.rest.now
