@@ -7,7 +7,7 @@ ghost use Rattle.session.specs.Gathering.{gathered, WhenOpened};
 use crate::output::Output;
 use day::{Answer, OpenDay, Reply};
 use journal::{Line, Lines, located, read_line};
-use outcomes::{Failure, Label, Outcome, Reason};
+use outcomes::{Failure, Label, Reason};
 use roster::Roster;
 use session::{RecordPlaces, RosterLines, answer, post_all};
 use std::alloc::Global;

@@ -7,7 +7,7 @@ use crate::words::{number, split_word};
 use outcomes::Reason;
 use std::str::from_utf8;
 
-// The numbers of places of the three registers.
+// How many places an opening asks for: for records, signal quarters and watch quarters.
 #[derive(Clone, Copy)]
 pub struct Places {
     pub records: usize,

@@ -13,6 +13,7 @@ pub struct Parts<Q: Quantity, const LIMIT: u32> {
     ghost together: { (Q.amount day_ahead.value +ℤ Q.amount real_time.value) ≤ℤ pos LIMIT },
 }
 
+// By hand: no derive makes it beside a ghost field that cites a bound.
 impl<Q: Quantity, const LIMIT: u32> Clone for Parts<Q, LIMIT> {
     ghost is_clone = { λ x y. y ≡ x };
 

@@ -1,3 +1,1 @@
 pub mod Greatest
-pub mod Hours
-pub mod Withholding

@@ -3,7 +3,7 @@
 use crate::cause::Cause;
 use units::{Kw, UpTo};
 
-// What is not paid of an award, day-ahead and real-time, and of a self-provision.
+// What is not paid of an award, day-ahead and real-time at most 20,000 each, and of a self-provision.
 #[derive(Clone, Copy)]
 pub struct Figures {
     pub award: UpTo<Kw, 40_000>,

@@ -71,16 +71,16 @@ impl Error for Failure {}
 impl From<Refusal> for Failure {
     ghost from_gives = { λ refusal failure. failure ≡ Refused refusal };
 
-    fn from(refusal: Refusal) -> Failure {
-        Failure::Refused(refusal)
+    fn from(found: Refusal) -> Failure {
+        Failure::Refused(found)
     }
 }
 
 impl From<Reason> for Failure {
     ghost from_gives = { λ reason failure. failure ≡ NotTaken reason };
 
-    fn from(reason: Reason) -> Failure {
-        Failure::NotTaken(reason)
+    fn from(found: Reason) -> Failure {
+        Failure::NotTaken(found)
     }
 }
 

@@ -114,27 +114,26 @@ impl Refusal {
         ensures { result ≡ layer_of self }
     {
         match self {
-            Refusal::MemberCount => Layer::Day,
-            Refusal::SiteCount => Layer::Day,
-            Refusal::SiteWithoutMember(_) => Layer::Day,
-            Refusal::BadName(_) => Layer::Day,
-            Refusal::RecordLength => Layer::Record,
-            Refusal::UnknownKind => Layer::Record,
-            Refusal::UnknownDirection => Layer::Record,
-            Refusal::WrongHour => Layer::Record,
-            Refusal::WrongVersion => Layer::Record,
-            Refusal::MalformedName => Layer::Record,
-            Refusal::UnknownName => Layer::Record,
-            Refusal::WrongNumber(_) => Layer::Record,
-            Refusal::VersionNotHigher(_) => Layer::Register,
-            Refusal::RegisterFull => Layer::Register,
-            Refusal::WrongPostingArgument(_) => Layer::Record,
-            Refusal::SignalLength => Layer::Record,
-            Refusal::WrongSample(_) => Layer::Record,
-            Refusal::WatchLength => Layer::Record,
-            Refusal::WrongMinute(_) => Layer::Record,
-            Refusal::WrongArgument(_) => Layer::Day,
-            Refusal::NotPosted => Layer::Day,
+            Refusal::MemberCount
+            | Refusal::SiteCount
+            | Refusal::SiteWithoutMember(_)
+            | Refusal::BadName(_)
+            | Refusal::WrongArgument(_)
+            | Refusal::NotPosted => Layer::Day,
+            Refusal::RecordLength
+            | Refusal::UnknownKind
+            | Refusal::UnknownDirection
+            | Refusal::WrongHour
+            | Refusal::WrongVersion
+            | Refusal::MalformedName
+            | Refusal::UnknownName
+            | Refusal::WrongNumber(_)
+            | Refusal::WrongPostingArgument(_)
+            | Refusal::SignalLength
+            | Refusal::WrongSample(_)
+            | Refusal::WatchLength
+            | Refusal::WrongMinute(_) => Layer::Record,
+            Refusal::VersionNotHigher(_) | Refusal::RegisterFull => Layer::Register,
         }
     }
 

@@ -21,12 +21,3 @@ module _ {K : Type 0} {same : K → K → Bool} (d : Decides same) where
       go : (b : Bool) → same j k ≡ b → b ≡ false
       go true e = absurd (h (d.equal j k e))
       go false e = refl
-
-  pub same_turned : (j k : K) → same j k ≡ same k j
-  same_turned j k = go (same j k) refl (same k j) refl
-    where
-      go : (a : Bool) → same j k ≡ a → (b : Bool) → same k j ≡ b → a ≡ b
-      go true p true q = refl
-      go true p false q = absurd (different k j q (sym (d.equal j k p)))
-      go false p true q = absurd (different j k p (sym (d.equal k j q)))
-      go false p false q = refl

@@ -13,10 +13,6 @@ ok_err a b e = let z : ◌≡◌ {A = ℕ} 0 1 = cc in absurd (omega arith)
 pub ok_equal : {A B : Type 0} (a b : A) → ◌≡◌ {A = Result A B} (Ok a) (Ok b) → a ≡ b
 ok_equal a b e = cc
 
-none_is : {V : Type 0} (o : Option V) → is_some o ≡ false → o ≡ None
-none_is None e = refl
-none_is (Some v) e = true_false e
-
 -- ---- how many
 module _ {E : Type 0} where
   count_most : (xs : List (Option E)) → count xs ≤ length xs

@@ -1,5 +1,5 @@
 -- A register seen through a view of its elements: what it answers and holds is that of the views view. Assumes nothing.
-use Rattle.std.proofs.Common.{◌≡◌, ℕ, zero, suc, Bool, true, false, cond, ltb, List, [], ◌∷◌, length, replicate, ℤ, ◌+ℤ◌, Some, None, Ok, Err, Option, Result, refl, ap, ◌∙◌, ap₂}
+use Rattle.std.proofs.Common.{◌≡◌, ℕ, zero, suc, Bool, true, false, cond, ltb, List, [], ◌∷◌, replicate, ℤ, ◌+ℤ◌, Some, None, Ok, Err, Option, Result, refl, ap, ◌∙◌, ap₂}
 use Rattle.std.specs.Option.{option_map}
 use Rattle.refusal.specs.declared.Refusal.{Refusal}
 use Rattle.refusal.specs.declared.Refusal.TheVariants.{VersionNotHigher, RegisterFull}
@@ -63,10 +63,6 @@ module _ {E S K : Type 0} (view : E → S) (w : Shape S K) where
   pub fresh_view : (n : ℕ) → views view (replicate n None) ≡ replicate n None
   fresh_view zero = refl
   fresh_view (suc n) = ap (λ ys. None ∷ ys) (fresh_view n)
-
-  pub length_view : (xs : List (Option E)) → length (views view xs) ≡ length xs
-  length_view [] = refl
-  length_view (x ∷ xs) = ap suc (length_view xs)
 
   value_view : (f : S → ℤ) (x : Option E) → value_of (λ e. f (view e)) x ≡ value_of f (option_map view x)
   value_view f None = refl

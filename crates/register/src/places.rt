@@ -10,10 +10,7 @@ use refusal::Refusal;
 fn holds<E: Entry>(place: &Option<E>, key: &E::Key) -> bool
     ensures { result ≡ holds E.Entry.shape key.now place.now }
 {
-    match place {
-        Some(held) => *key == held.key(),
-        None => false,
-    }
+    place.is_some_and(|held| *key == held.key())
 }
 
 // Where the element under a key stands.
@@ -40,10 +37,7 @@ pub(crate) fn look_up<E: Entry>(places: &[Option<E>], key: &E::Key) -> Option<E>
 fn supersedes<E: Entry>(e: E, held: Option<E>) -> bool
     ensures { result ≡ supersedes E.Entry.shape e held }
 {
-    match held {
-        Some(held) => held.version() < e.version(),
-        None => true,
-    }
+    held.is_none_or(|held| held.version() < e.version())
 }
 
 pub(crate) fn put_into<E: Entry>(places: &mut [Option<E>], e: E) -> Result<Option<E>, Refusal>

@@ -6,7 +6,7 @@ ghost use Rattle.day.specs.Requests.{request_of};
 ghost use Rattle.day.specs.States.{state_of};
 ghost use Rattle.history.specs.Runs.{play, events};
 ghost use Rattle.journal.specs.Reading.{reads};
-ghost use Rattle.journal.specs.Reading.{request_of as line_of};
+ghost use Rattle.journal.specs.Reading.{request_of as line_request};
 ghost use Rattle.day.specs.declared.calls.Call.TheVariants.{Post};
 ghost use Rattle.session.specs.Calls.{argument_of, asked, postings_of, posting_of, Made, Answered};
 
@@ -25,7 +25,7 @@ pub(crate) fn argument(number: Option<usize>) -> usize
 
 // The call that a question makes.
 fn question<'c>(line: Line<'c>) -> Option<Call<'c>>
-    ensures { option_map request_of result ≡ asked (line_of line.entry) }
+    ensures { option_map request_of result ≡ asked (line_request line.entry) }
 {
     match line {
         Line::Balance(member) => Some(Call::Balance(argument(member))),
@@ -60,7 +60,7 @@ fn post(heap: Global, day: &mut OpenDay<'_>, text: &[u8]) -> Outcome
 
 // Makes the call of a line, if it makes one by itself: a record or a question.
 pub fn answer(heap: Global, day: &mut OpenDay<'_>, line: Result<Line<'_>, Reason>) -> Outcome
-    ensures { Answered (reads line_of line.entry) (state_of day.old) result (state_of day.new) }
+    ensures { Answered (reads line_request line.entry) (state_of day.old) result (state_of day.new) }
 {
     match line? {
         Line::Record(text) => post(heap, day, text),

@@ -24,7 +24,7 @@ fn empty_places(heap: Global, count: usize) -> Result<RecordPlaces, AllocError>
     vec![in heap; None; count.min(RECORD_KEYS)]
 }
 
-// The members and sites that a journal's lines have named since the last opening.
+// The members and sites that a journal's lines have named, for the day that is opened with them.
 #[derive(Drop)]
 pub struct RosterLines<'j> {
     pub members: Vec<Member<'j>>,
@@ -42,7 +42,7 @@ impl<'j> RosterLines<'j> {
     }
 
     // The places of a day that the roster may open; a roster that is refused is used up.
-    fn open_day(&mut self, heap: Global, records: usize) -> Result<RecordPlaces, Failure>
+    fn day_places(&mut self, heap: Global, records: usize) -> Result<RecordPlaces, Failure>
         ensures step { OpeningStep (opening (gathered self.old)) records (gathered self.old) result (gathered self.new) }
         ensures opened { IfOk result (λ _. opening (gathered self.new) ≡ Ok tt) }
     {
@@ -70,7 +70,7 @@ impl<'j> RosterLines<'j> {
                 self.sites.push(Site { member, name })?;
                 Ok(None)
             }
-            Line::Open(places) => Ok(Some(self.open_day(heap, places.records)?)),
+            Line::Open(places) => Ok(Some(self.day_places(heap, places.records)?)),
             Line::Record(_) | Line::Records(_) | Line::Balance(_) | Line::Account(_) => {
                 Err(Failure::from(Reason::NoDay))
             }

@@ -20,6 +20,7 @@ pub type UpTo<Q, const LIMIT: u32> = Limited<Q, 0, LIMIT>;
 // At most the limit, above or below 0.
 pub type Bounded<Q, const LIMIT: u32> = Limited<Q, LIMIT, LIMIT>;
 
+// By hand: no derive makes it beside a ghost field that cites a bound.
 impl<Q: Quantity, const BELOW: u32, const ABOVE: u32> Clone for Limited<Q, BELOW, ABOVE> {
     ghost is_clone = { λ x y. y ≡ x };
 

@@ -5,7 +5,7 @@ ghost use Rattle.std.specs.Int.{w64};
 
 use std::ops::{Add, Neg, Sub};
 
-// A whole number of a unit.
+// A whole number of a unit. Each unit is a struct of its own, so that none is taken for another, and says how it is made.
 pub trait Quantity: Copy {
     ghost amount: { Self → ℤ };
 
