@@ -19,7 +19,7 @@ pub enum Call<'c> {
     Account(usize),
 }
 
-// What a day says to a call that it does not refuse.
+// What a day says to a call that it does not refuse: that a call was taken is an answer of its own, and no figure left out.
 #[derive(Clone, Copy)]
 pub enum Reply {
     Taken,

@@ -27,7 +27,8 @@ pub fn replay(
     ensures zero { AddsUpToZero }
     ensures holdings { FiguresDependOnHoldingsAlone }
 {
-    // All memory is asked for before the first call, so each answer finds its room.
+    // All memory is asked for before the first call, so each answer finds its room. A loop, since what the closure of a chain
+    // changes is not known after it.
     let mut given = Vec::with_capacity(heap, calls.len())?;
     for call in calls {
         given.push_reserved(day.make(call));

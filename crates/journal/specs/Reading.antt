@@ -1,7 +1,7 @@
 -- What a line of a journal asks for. Assumes nothing.
 use Rattle.std.specs.Prelude.{ℕ, Bool, false, cond, List, [], ◌∷◌, length, drop, Some, None, Ok, Err, codes, Option, Result, ◌==◌, nat_lt}
 use Rattle.std.specs.Str.{bytes_eq}
-use Rattle.std.specs.Result.{result_map_both}
+use Rattle.refusal.specs.Checks.{viewed}
 use Rattle.journal.specs.Words.{word_of, after_word, number_of}
 use Rattle.outcomes.specs.declared.outcome.Reason.{Reason}
 use Rattle.outcomes.specs.declared.outcome.Reason.TheVariants.{UnknownWord, MissingWords, TooManyWords, NotANumber}
@@ -29,10 +29,6 @@ request_of (Record text) = posting text.now
 request_of (Records file) = postings_in file.now
 request_of (Balance index) = balance index
 request_of (Account index) = account index
-
--- what a reading gives, or the reason why it is not taken
-abbrev pub reads : {A B : Type 0} → (A → B) → Result A Reason → Result B Reason
-reads ask reading = result_map_both ask (λ reason. reason) reading
 
 -- a comment begins with a number sign
 abbrev pub is_comment : List ℕ → Bool
@@ -67,13 +63,13 @@ places_of rest = places_by (number_of (word_of rest)) (number_of (word_of (after
 abbrev pub by_word : List ℕ → List ℕ → Result Request Reason
 by_word word rest =
     cond (bytes_eq word []) (Ok passed)
-    (cond (bytes_eq word (codes "member")) (reads member (text_after rest))
-    (cond (bytes_eq word (codes "site")) (reads (site (number_of (word_of rest))) (text_after (after_word rest)))
-    (cond (bytes_eq word (codes "open")) (reads opening (places_of rest))
-    (cond (bytes_eq word (codes "record")) (reads posting (text_after rest))
-    (cond (bytes_eq word (codes "records")) (reads postings_in (only_word rest))
-    (cond (bytes_eq word (codes "balance")) (reads (λ w. balance (number_of w)) (only_word rest))
-    (cond (bytes_eq word (codes "account")) (reads (λ w. account (number_of w)) (only_word rest)) (Err UnknownWord))))))))
+    (cond (bytes_eq word (codes "member")) (viewed member (text_after rest))
+    (cond (bytes_eq word (codes "site")) (viewed (site (number_of (word_of rest))) (text_after (after_word rest)))
+    (cond (bytes_eq word (codes "open")) (viewed opening (places_of rest))
+    (cond (bytes_eq word (codes "record")) (viewed posting (text_after rest))
+    (cond (bytes_eq word (codes "records")) (viewed postings_in (only_word rest))
+    (cond (bytes_eq word (codes "balance")) (viewed (λ w. balance (number_of w)) (only_word rest))
+    (cond (bytes_eq word (codes "account")) (viewed (λ w. account (number_of w)) (only_word rest)) (Err UnknownWord))))))))
 
 -- what a line asks for, or the reason why it is not taken
 abbrev pub request : List ℕ → Result Request Reason

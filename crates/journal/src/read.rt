@@ -1,7 +1,8 @@
 //! A line of a journal read into what it asks for.
 
 ghost use Rattle.std.specs.Prelude.{◌≡◌};
-ghost use Rattle.journal.specs.Reading.{reads, request, request_of, text_after, only_word, places_of};
+ghost use Rattle.refusal.specs.Checks.{viewed};
+ghost use Rattle.journal.specs.Reading.{request, request_of, text_after, only_word, places_of};
 
 use crate::words::{number, split_word};
 use outcomes::Reason;
@@ -31,7 +32,7 @@ pub enum Line<'a> {
 
 // What stands after one separator, if anything does.
 fn text_after(rest: &[u8]) -> Result<&[u8], Reason>
-    ensures { reads (λ x. x.now) result ≡ text_after rest.now }
+    ensures { viewed (λ x. x.now) result ≡ text_after rest.now }
 {
     match rest {
         [_, text @ ..] if !text.is_empty() => Ok(text),
@@ -41,7 +42,7 @@ fn text_after(rest: &[u8]) -> Result<&[u8], Reason>
 
 // The one word that stands there.
 fn only_word(rest: &[u8]) -> Result<&[u8], Reason>
-    ensures { reads (λ x. x.now) result ≡ only_word rest.now }
+    ensures { viewed (λ x. x.now) result ≡ only_word rest.now }
 {
     let (word, rest) = split_word(rest);
     if word.is_empty() {
@@ -70,7 +71,7 @@ fn read_open(rest: &[u8]) -> Result<Places, Reason>
 
 // What a line asks for, or why it is not taken.
 pub fn read_line(line: &[u8]) -> Result<Line<'_>, Reason>
-    ensures { reads request_of result ≡ request line.now }
+    ensures { viewed request_of result ≡ request line.now }
 {
     if line.starts_with(b"#") {
         return Ok(Line::Passed);

@@ -7,8 +7,8 @@ ghost use Rattle.mileage.specs.Mileage.{day_ahead_schedule, greater_schedule, da
 ghost use Rattle.mileage.specs.Awards.{schedules};
 
 use crate::parts::{MileageParts, MileagePayment, Payment};
-use postings::{Award, MileagePrices};
-use units::{Accuracy, AdjustedMileage, Cents, CentsPerMw, Kw, Quarter, UpTo, floor_div};
+use postings::{Award, MileagePrice, MileagePrices};
+use units::{Accuracy, AdjustedMileage, Cents, Kw, Quarter, UpTo, floor_div};
 
 const KW_PER_MW: i64 = 1_000;
 
@@ -51,7 +51,7 @@ pub fn split(award: &Award, mileage: AdjustedMileage) -> MileageParts
 }
 
 // What a part is paid at a price, rounded down by itself.
-fn paid(part: AdjustedMileage, price: UpTo<CentsPerMw, 10_000>, accuracy: Accuracy) -> Payment
+fn paid(part: AdjustedMileage, price: MileagePrice, accuracy: Accuracy) -> Payment
     ensures { result.value.0 ≡ paid part.value.0 price.value.0 accuracy.value }
 {
     let amount = part.value.0 * price.value.0 * accuracy.value;

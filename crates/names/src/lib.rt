@@ -92,7 +92,7 @@ enum Piece<'a> {
     Escape(Entity),
 }
 
-// How many bytes at the front stand for themselves.
+// How many bytes at the front stand for themselves. One call of the library; a journal's words are cut in a crate that has no names.
 fn plain_len(bytes: &[u8]) -> usize
     ensures { result ≡ position_or_len delimiter bytes.now }
 {
@@ -147,6 +147,7 @@ pub fn reads_as(field: &[u8], name: &[u8]) -> Result<bool, Malformed>
     let mut left = Some(name);
     while !rest.is_empty() {
         let (piece, after) = Piece::read(rest)?;
+        // Each turn takes a piece of another length, so this is no chain.
         if let Some(begun) = left {
             left = piece.strip_from(begun);
         }

@@ -3,6 +3,7 @@
 ghost use Rattle.std.specs.Prelude.{◌≡◌, Some};
 ghost use Rattle.nopay.specs.NoPay.{cause_number};
 
+// The operator loads parts by its number, which a definition sets, with 0 for no cause.
 #[derive(Clone, Copy, PartialEq, Eq)]
 pub enum Cause {
     Outage,

@@ -6,6 +6,7 @@ ghost use Rattle.watch.specs.Assessed.{available, room_of};
 ghost use Rattle.nopay.specs.NoPay.{room, beyond_room, quantity, greatest, first_greatest};
 
 use crate::cause::Cause;
+use postings::SiteKw;
 use units::{Direction, Kw, UpTo};
 use watch::{Availability, Room};
 
@@ -18,15 +19,15 @@ pub(crate) const CAUSES: [Cause; 5] = [
     Cause::OutOfRange,
 ];
 
-// What a site was not available for: at most the highest schedule.
-pub(crate) type Unavailable = UpTo<Kw, 20_000>;
+// What a site was not available for: at most its schedule.
+pub(crate) type Unavailable = SiteKw;
 
 const NOTHING: Unavailable = UpTo { value: Kw(0) };
 
 // What was scheduled in a direction, and how the site was available.
 #[derive(Clone, Copy)]
 pub(crate) struct Unavailability {
-    pub schedule: UpTo<Kw, 20_000>,
+    pub schedule: SiteKw,
     pub availability: Availability,
     pub direction: Direction,
 }
@@ -53,7 +54,7 @@ impl Unavailability {
         }
     }
 
-    // By one cause.
+    // By one cause: the whole schedule or nothing, as a condition says, but where the site was constrained.
     fn quantity(self, cause: Cause) -> Unavailable
         ensures { result.value.0 ≡ quantity self.schedule.value.0 (available self.availability) self.direction cause }
     {

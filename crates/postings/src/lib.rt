@@ -6,6 +6,6 @@ pub mod entry;
 pub mod posting;
 
 pub use posting::{
-    Award, Bill, BillNumber, CapacityPrices, Content, Key, Kind, MileagePrices, Obligation,
-    Posting, Side, Subject,
+    Award, Bill, BillNumber, CapacityPrice, CapacityPrices, Content, Key, Kind, MileagePrice,
+    MileagePrices, Obligation, Posting, Side, SiteKw, Subject,
 };

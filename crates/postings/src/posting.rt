@@ -14,32 +14,41 @@ pub enum Kind {
     Bill,
 }
 
+// What may be awarded, provided or scheduled of a site in an hour.
+pub type SiteKw = UpTo<Kw, 20_000>;
+
+// What a megawatt of mileage may be paid.
+pub type MileagePrice = UpTo<CentsPerMw, 10_000>;
+
+// What a megawatt of capacity may be paid.
+pub type CapacityPrice = UpTo<CentsPerMw, 100_000>;
+
 // What the pool was awarded for a site.
 #[derive(Clone, Copy)]
 pub struct Award {
     pub version: Version,
     pub site: SiteIndex,
-    pub day_ahead: UpTo<Kw, 20_000>,
-    pub self_provision: UpTo<Kw, 20_000>,
-    pub real_time: UpTo<Kw, 20_000>,
-    pub schedule: UpTo<Kw, 20_000>,
-    pub disqualified: UpTo<Kw, 20_000>,
+    pub day_ahead: SiteKw,
+    pub self_provision: SiteKw,
+    pub real_time: SiteKw,
+    pub schedule: SiteKw,
+    pub disqualified: SiteKw,
 }
 
 // What a megawatt of mileage is paid: day-ahead, and in each quarter of the hour.
 #[derive(Clone, Copy)]
 pub struct MileagePrices {
     pub version: Version,
-    pub day_ahead: UpTo<CentsPerMw, 10_000>,
-    pub real_time: [UpTo<CentsPerMw, 10_000>; 4],
+    pub day_ahead: MileagePrice,
+    pub real_time: [MileagePrice; 4],
 }
 
 // What a megawatt of capacity is paid.
 #[derive(Clone, Copy)]
 pub struct CapacityPrices {
     pub version: Version,
-    pub day_ahead: UpTo<CentsPerMw, 100_000>,
-    pub real_time: UpTo<CentsPerMw, 100_000>,
+    pub day_ahead: CapacityPrice,
+    pub real_time: CapacityPrice,
 }
 
 // What a member has to provide.
@@ -94,7 +103,8 @@ pub struct Posting {
     pub content: Content,
 }
 
-// What a record is about: its kind, with the index of the site or the member that it names; of a bill its number too.
+// What a record is about: its kind, with the index of the site or the member that it names; of a bill its number too. Plain
+// numbers, since the rules name keys that no posting has.
 #[derive(Clone, Copy, PartialEq, Eq)]
 pub enum Subject {
     Award(u8),

@@ -41,7 +41,8 @@ pub(crate) fn read_direction(letter: u8) -> Result<Direction, Refusal>
     Direction::try_from(letter).map_err(|_| Refusal::UnknownDirection)
 }
 
-// The number that decimal digits write. The loop is none of the library's folds: their closure could not show that its product fits.
+// The number that decimal digits write: at most six, which fit. The loop is none of the library's folds: their closure could not
+// show that its product fits.
 pub(crate) fn read_digits(digits: &[u8], refusal: Refusal) -> Result<u32, Refusal>
     requires { length digits.now ≤ 6 }
     ensures { result ≡ ok_or (number_after 0 digits.now) refusal }
@@ -56,7 +57,7 @@ pub(crate) fn read_digits(digits: &[u8], refusal: Refusal) -> Result<u32, Refusa
     Ok(n)
 }
 
-// The value of a type whose number decimal digits write.
+// The value of a type whose number decimal digits write; a number of six digits fits a machine word.
 pub(crate) fn read_value<T: TryFrom<usize, Error = OutOfRange>>(
     digits: &[u8],
     refusal: Refusal,
@@ -68,7 +69,8 @@ pub(crate) fn read_value<T: TryFrom<usize, Error = OutOfRange>>(
     T::try_from(number as usize).map_err(|_| refusal)
 }
 
-// Whether a name field is blank, as a kind without a name has it, and no other.
+// Whether a name field is blank, as a kind without a name has it, and no other: both ways it is turned back alike, so one test
+// takes what is wanted.
 pub(crate) fn check_blank(field: &[u8], wanted: bool) -> Result<(), Refusal>
     ensures { result ≡ blank_as wanted (text field.now) }
 {

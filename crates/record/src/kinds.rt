@@ -12,7 +12,8 @@ use postings::{Award, Bill, BillNumber, CapacityPrices, Content, Kind, MileagePr
 use refusal::Refusal;
 use roster::{MemberIndex, Roster, SiteIndex};
 
-// A kind, with the site or the member that a record of it names.
+// A kind, with the site or the member that a record of it names, in the types that its content has; a kind alone is known before
+// its name is read.
 #[derive(Clone, Copy)]
 pub(crate) enum NamedKind {
     Award(SiteIndex),

@@ -8,7 +8,8 @@ use postings::Side;
 use refusal::Refusal;
 use units::{Quantity, UpTo, Version};
 
-// What one number of a record says: its type has a value for each number from 0 to a limit.
+// What one number of a record says: its type has a value for each number from 0 to a limit. A `TryFrom` says no limit, and the
+// five limits are read as one list.
 pub(crate) trait RecordNumber: Copy {
     ghost limit: { ℕ };
 
@@ -42,7 +43,7 @@ impl RecordNumber for Side {
     }
 }
 
-// A number that a kind does not have: 0.
+// A number that a kind does not have: 0. It has a name, so that a pattern says which numbers a kind lacks.
 #[derive(Clone, Copy)]
 pub(crate) struct Absent;
 

@@ -13,6 +13,6 @@ provided true refusal = Ok tt
 provided false refusal = Err refusal
 
 -- a result by its view
-abbrev pub viewed : {A B : Type 0} → (A → B) → Result A Refusal → Result B Refusal
+abbrev pub viewed : {A B E : Type 0} → (A → B) → Result A E → Result B E
 viewed view (Ok x) = Ok (view x)
-viewed view (Err refusal) = Err refusal
+viewed view (Err error) = Err error

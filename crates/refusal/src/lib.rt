@@ -75,12 +75,13 @@ pub enum Refusal {
     WrongSample(u8),
     WatchLength,
     WrongMinute(u8),
-    // Asking: the argument by its index.
+    // Asking: the argument by its index, which is 0 where a question has but one.
     WrongArgument(u8),
     // Asking for the no pay of a quarter: no award or no watch was posted.
     NotPosted,
 }
 
+// What a refusal carries: a table each over all checks, since no one number of a check says the others.
 impl Refusal {
     pub fn number(self) -> u8
         ensures { result ≡ number_of self }

@@ -24,7 +24,7 @@ fn check_counts(members: usize, sites: usize) -> Result<(), Refusal>
     Ok(())
 }
 
-// Each site's member has to be below the count.
+// Each site's member has to be below the count. Of at most 32 sites the index fits a byte, as that of at most 48 names does.
 fn check_site_members(sites: &[Site<'_>], members: usize) -> Result<(), Refusal>
     requires { length sites.now ≤ 32 }
     ensures { result ≡ refused Refusal.SiteWithoutMember (without_member members (map line_of sites.now)) }

@@ -5,7 +5,7 @@ ghost use Rattle.std.specs.Option.{option_map};
 ghost use Rattle.day.specs.Requests.{request_of};
 ghost use Rattle.day.specs.States.{state_of};
 ghost use Rattle.history.specs.Runs.{play, events};
-ghost use Rattle.journal.specs.Reading.{reads};
+ghost use Rattle.refusal.specs.Checks.{viewed};
 ghost use Rattle.journal.specs.Reading.{request_of as line_request};
 ghost use Rattle.day.specs.declared.calls.Call.TheVariants.{Post};
 ghost use Rattle.session.specs.Calls.{argument_of, asked, postings_of, posting_of, Made, Answered};
@@ -60,7 +60,7 @@ fn post(heap: Global, day: &mut OpenDay<'_>, text: &[u8]) -> Outcome
 
 // Makes the call of a line, if it makes one by itself: a record or a question.
 pub fn answer(heap: Global, day: &mut OpenDay<'_>, line: Result<Line<'_>, Reason>) -> Outcome
-    ensures { Answered (reads line_request line.entry) (state_of day.old) result (state_of day.new) }
+    ensures { Answered (viewed line_request line.entry) (state_of day.old) result (state_of day.new) }
 {
     match line? {
         Line::Record(text) => post(heap, day, text),

@@ -72,7 +72,8 @@ pub type Hour = Below<24>;
 // A quarter of an hour.
 pub type Quarter = Below<4>;
 
-// How often a posting was corrected, 1 to 999: the higher version stands.
+// How often a posting was corrected, 1 to 999: the higher version stands. The one number counted from 1, so `Below` has no lower
+// bound.
 #[derive(Clone, Copy, PartialEq, Eq)]
 pub struct Version {
     pub value: u16,
@@ -93,7 +94,8 @@ impl TryFrom<usize> for Version {
     }
 }
 
-// How well a site followed its signal, in hundredths of a percent: 0 to 10,000.
+// How well a site followed its signal, in hundredths of a percent: 0 to 10,000. A type of its own, so that no other number is
+// taken for one.
 #[derive(Clone, Copy)]
 pub struct Accuracy {
     pub value: i64,

@@ -49,6 +49,7 @@ impl Quantity for Cents {
     }
 }
 
+// An impl for each unit, so that power is never added to money.
 impl Add<Kw> for Kw {
     type Output = Kw;
 

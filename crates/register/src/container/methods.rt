@@ -1,4 +1,4 @@
-//! The calls of a register.
+//! The calls of a register: what is done to places is said of lists of places alone, and a call adds what the register keeps.
 
 ghost use Rattle.std.specs.Prelude.{◌≡◌, length, replicate, None, true};
 ghost use Rattle.register.specs.Registers.{look, distinct, put_answer, put, HeldAfter, SumsByKey, SumsBounded};
