@@ -21,7 +21,8 @@ pub fn split_word(text: &[u8]) -> (&[u8], &[u8])
     split_before(text, |b| is_separator(*b))
 }
 
-// A number in digits, if there are any, no other byte stands among them, and it is below 2^64.
+// A number in digits, if there are any, no other byte stands among them, and it is below 2^64. A record's six digits fail with a
+// refusal, and need no text.
 pub fn number(word: &[u8]) -> Option<usize>
     ensures { result ≡ number_of word.now }
 {

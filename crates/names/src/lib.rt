@@ -85,7 +85,7 @@ impl fmt::Display for Malformed {
 
 impl Error for Malformed {}
 
-// A stretch of bytes that stand for themselves, or one escape.
+// A stretch of bytes that stand for themselves, or one escape. It borrows the field, so that names are compared without a copy.
 #[derive(Clone, Copy)]
 enum Piece<'a> {
     Plain(&'a [u8]),

@@ -5,6 +5,7 @@ ghost use Rattle.std.specs.Prelude.{◌≡◌};
 use roster::{MemberIndex, SiteIndex};
 use units::{Cents, CentsPerMw, Direction, Hour, Kw, UpTo, Version};
 
+// The kind alone, which is known before a record is read further.
 #[derive(Clone, Copy, PartialEq, Eq)]
 pub enum Kind {
     Award,
@@ -87,6 +88,7 @@ pub struct Bill {
     pub amount: UpTo<Cents, 999_999>,
 }
 
+// What is posted, by kind, in the types that keep its limits.
 #[derive(Clone, Copy)]
 pub enum Content {
     Award(Award),

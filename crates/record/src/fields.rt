@@ -18,7 +18,7 @@ pub(crate) fn is_framed(bytes: &[u8]) -> bool
     bytes.len() == LENGTH && bytes[LENGTH - 1] == b'\n'
 }
 
-// The kind's letters are matched together, in place.
+// The kind's letters are cases of a slice pattern, as the rules have it.
 pub(crate) fn read_kind(bytes: &[u8]) -> Result<Kind, Refusal>
     ensures { result ≡ kind_in bytes.now }
 {
@@ -57,7 +57,8 @@ pub(crate) fn read_digits(digits: &[u8], refusal: Refusal) -> Result<u32, Refusa
     Ok(n)
 }
 
-// The value of a type whose number decimal digits write; a number of six digits fits a machine word.
+// The value of a type whose number decimal digits write; a number of six digits fits a machine word. It
+// fails by its field's check, a number of a record by its index.
 pub(crate) fn read_value<T: TryFrom<usize, Error = OutOfRange>>(
     digits: &[u8],
     refusal: Refusal,

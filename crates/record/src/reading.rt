@@ -17,6 +17,7 @@ use units::{Hour, Version};
 pub fn read(bytes: &[u8], roster: &Roster<'_>) -> Result<Posting, Refusal>
     ensures value { MatchResult result (λ p. reading (roster_of roster.now) bytes.now ≡ Ok (said p)) (λ e. reading (roster_of roster.now) bytes.now ≡ Err e) }
 {
+    // Each field stands at its place in the format.
     if !is_framed(bytes) {
         return Err(Refusal::RecordLength);
     }

@@ -7,7 +7,7 @@ use crate::entry::Entry;
 
 mod methods;
 
-// The places are lent, and only the register's own calls change what they hold: no two elements under one key.
+// The places are lent, so that no call asks for memory, and only the register's own calls change what they hold: no two elements under one key.
 #[derive(Drop)]
 pub struct Register<'a, E: Entry> {
     places: &'a mut [Option<E>],

@@ -13,7 +13,7 @@ fn holds<E: Entry>(place: &Option<E>, key: &E::Key) -> bool
     place.is_some_and(|held| *key == held.key())
 }
 
-// Where the element under a key stands.
+// Where the element under a key stands: one place after the other, since the container is a slice that is lent.
 fn place_of<E: Entry>(places: &[Option<E>], key: &E::Key) -> Option<usize>
     ensures { result ≡ position (holds E.Entry.shape key.now) places.now }
 {

@@ -34,7 +34,7 @@ fn question<'c>(line: Line<'c>) -> Option<Call<'c>>
     }
 }
 
-// Makes one call.
+// Makes one call. The allocator is passed beside the day, as to all that asks for memory.
 fn make_one(heap: Global, day: &mut OpenDay<'_>, call: Call<'_>) -> Outcome
     ensures { Made (request_of call.entry) (state_of day.old) result (state_of day.new) }
 {

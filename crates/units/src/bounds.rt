@@ -31,7 +31,7 @@ pub enum Direction {
     Down,
 }
 
-// By its letter.
+// By its letter, a case for each, as the rules have it.
 impl TryFrom<u8> for Direction {
     type Error = OutOfRange;
 
