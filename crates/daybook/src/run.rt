@@ -9,7 +9,7 @@ use day::{Answer, OpenDay, Reply};
 use journal::{Line, Lines, located, read_line};
 use outcomes::{Failure, Label, Reason};
 use roster::Roster;
-use session::{RecordPlaces, RosterLines, answer, post_all};
+use session::{RecordPlaces, RosterLines, answer, outcome_of, post_all};
 use std::alloc::Global;
 use std::str::from_utf8;
 use std::{fs, io};
@@ -61,7 +61,7 @@ impl Journal<'_> {
 
     fn print_records(&mut self, number: u64, answers: &[Answer]) -> io::Result<()> {
         for (nth, answer) in (1..u64::MAX).zip(answers) {
-            let outcome = answer.map_err(Failure::from);
+            let outcome = outcome_of(*answer);
             self.output
                 .print(Label::Record(number, nth), b"record", outcome)?;
         }

@@ -1,14 +1,22 @@
 -- Words that are not known. Assumes nothing.
-use Rattle.std.proofs.Common.{◌≡◌, ℕ, true, false, List, [], Err, codes, refl, sym, subst}
+use Rattle.std.proofs.Common.{◌≡◌, ℕ, ◌==◌, true, false, List, [], ◌∷◌, length, Ok, Err, codes, refl, sym, ap, subst, arith}
 use Rattle.std.specs.Str.{bytes_eq, encode_utf8_all, IsUtf8}
 use lib.Utf8.{scalars, encode}
-use Rattle.std.proofs.lemmas.Bool.{false_from_ne_true}
+use Rattle.std.proofs.lemmas.Bool.{false_from_ne_true, eqb-true, eqb-false}
 use Rattle.std.proofs.lemmas.Slice.Eq.{bytes_eq-Decides}
 use Rattle.outcomes.specs.declared.outcome.Reason.TheVariants.{UnknownWord}
-use Rattle.journal.specs.Reading.{by_word}
+use Rattle.journal.specs.Reading.{by_word, passed}
 
 apart : (word known : List ℕ) → (word ≡ known → ⊥) → bytes_eq word known ≡ false
 apart word known other = false_from_ne_true _ (λ same. other ((bytes_eq-Decides word known).0 same))
+
+-- no word
+pub none : (word rest : List ℕ) → true ≡ (length word == 0) → Ok passed ≡ by_word word rest
+none [] rest empty = refl
+none (b ∷ bs) rest empty = let none = eqb-true (length (b ∷ bs)) 0 (sym empty) in absurd (omega arith)
+
+pub some : (word : List ℕ) → false ≡ (length word == 0) → word ≡ [] → ⊥
+some word full e = eqb-false (length word) 0 (sym full) (ap length e)
 
 -- any other word
 pub unknown : (word rest : List ℕ) → (word ≡ [] → ⊥) → (word ≡ codes "member" → ⊥) → (word ≡ codes "site" → ⊥) → (word ≡ codes "open" → ⊥) →

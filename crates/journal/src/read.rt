@@ -77,11 +77,13 @@ pub fn read_line(line: &[u8]) -> Result<Line<'_>, Reason>
         return Ok(Line::Passed);
     }
     let (word, rest) = split_word(line);
+    if word.is_empty() {
+        return Ok(Line::Passed);
+    }
     let Ok(word) = from_utf8(word) else {
         return Err(Reason::UnknownWord);
     };
     match word {
-        "" => Ok(Line::Passed),
         "member" => Ok(Line::Member(text_after(rest)?)),
         "site" => {
             let (member, rest) = split_word(rest);

@@ -1,2 +1,3 @@
+pub mod Trimming
 pub mod Comparisons
 pub mod Pieces

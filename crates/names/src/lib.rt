@@ -131,12 +131,13 @@ impl<'a> Piece<'a> {
     }
 }
 
-// A field without the spaces at its end.
-fn trim_end(field: &[u8]) -> &[u8]
-    ensures { result.now ≡ trimmed_end field.now }
+// A field without the spaces at its end: its text is the same, and whoever asks of many names trims it once.
+pub fn trim_end(field: &[u8]) -> &[u8]
+    ensures trimmed { result.now ≡ trimmed_end field.now }
+    ensures same { text result.now ≡ text field.now }
 {
-    let spaces = field.iter().rev().take_while(|byte| **byte == b' ').count();
-    &field[..field.len() - spaces]
+    let spaces = field.iter().rev().position(|byte| *byte != b' ');
+    &field[..field.len() - spaces.unwrap_or(field.len())]
 }
 
 // Whether the text of a field is this name.

@@ -3,7 +3,6 @@
 ghost use Rattle.std.specs.Prelude.{◌≡◌};
 ghost use Rattle.postings.specs.Postings.{posting_shape, signed};
 ghost use Rattle.postings.specs.Keys;
-ghost use Rattle.std.proofs.Common.{rules};
 
 use crate::posting::{Bill, Content, Key, Posting, Side, Subject};
 use refusal::Document;
@@ -14,8 +13,6 @@ impl Entry for Posting {
     type Key = Key;
 
     ghost shape = { posting_shape };
-
-    ghost compares = { Prim.search rules };
 
     ghost decides = { Keys.decides };
 
@@ -46,6 +43,10 @@ impl Entry for Posting {
 
     fn document(&self) -> Document {
         Document::Record
+    }
+
+    fn is_under(&self, key: &Key) -> bool {
+        *key == self.key()
     }
 }
 

@@ -1,8 +1,7 @@
 -- What the places of a register hold. Assumes nothing.
 use Rattle.std.specs.Prelude.{List, Option}
-use Rattle.std.specs.declared.cmp.PartialEq as PartialEq
 use Rattle.register.specs.declared.entry.Entry as Entry
 use Rattle.register.specs.declared.container.Register.{Register}
 
-abbrev pub places_in : {E K : Type 0} {entry : Entry.Ghosts E K} {equality : PartialEq.Ghosts K} → Register E K entry equality → List (Option E)
+abbrev pub places_in : {E K : Type 0} {entry : Entry.Ghosts E K} → Register E K entry → List (Option E)
 places_in r = r.places.now

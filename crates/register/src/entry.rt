@@ -7,7 +7,7 @@ use refusal::Document;
 
 // An element of a register.
 pub trait Entry: Copy {
-    type Key: Copy + Eq;
+    type Key: Copy;
 
     ghost shape: { Shape Self Self.Key };
 
@@ -20,8 +20,10 @@ pub trait Entry: Copy {
     fn document(&self) -> Document
         ensures { result ≡ shape.document self.now };
 
-    // Keys are compared as their type compares them, and that tells whether they are equal.
-    ghost compares: { (j k : Self.Key) → ⟦<Self::Key as PartialEq>⟧.eq j k ≡ shape.same j k };
+    // Whether the element stands under the key; a key need have no `==` of its own.
+    fn is_under(&self, key: &Self::Key) -> bool
+        ensures { result ≡ shape.same key.now (shape.key self.now) };
 
+    // The comparison of keys tells whether they are equal.
     ghost decides: { Decides shape.same };
 }

@@ -10,7 +10,7 @@ use refusal::Refusal;
 fn holds<E: Entry>(place: &Option<E>, key: &E::Key) -> bool
     ensures { result ≡ holds E.Entry.shape key.now place.now }
 {
-    place.is_some_and(|held| *key == held.key())
+    place.as_ref().is_some_and(|held| held.is_under(key))
 }
 
 // Where the element under a key stands: one place after the other, since the container is a slice that is lent.

@@ -5,13 +5,14 @@ ghost use Rattle.names.specs.Names.{text};
 ghost use Rattle.roster.specs.Rosters.{found, wrong, wrong_name};
 
 use crate::entries::Named;
-use names::{is_well_formed, reads_as};
+use names::{is_well_formed, reads_as, trim_end};
 
 // The index of the entry whose name is the text of the field.
 pub(crate) fn find<E: Named>(row: &[E], field: &[u8]) -> Option<usize>
     ensures value { result ≡ found (text field.now) (map E.named row.now) }
     ensures within { IfSome result (λ i. i < length row.now) }
 {
+    let field = trim_end(field);
     row.iter()
         .position(|entry| matches!(reads_as(field, entry.name()), Ok(true)))
 }

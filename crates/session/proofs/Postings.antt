@@ -10,6 +10,5 @@ each : (texts : List (Bor (List ℕ))) → map request_of (map Post texts) ≡ m
 each [] = refl
 each (x ∷ texts) = ap (λ qs. post x.now ∷ qs) (each texts)
 
-pub posted : (texts slice : List (Bor (List ℕ))) (text : List ℕ) (calls made : List Call) → map (λ x. x.now) texts ≡ records_of text → slice ≡ texts → calls ≡ map Post slice → made ≡ calls →
-    map request_of made ≡ postings_of text
-posted texts slice text calls made split same posts is = ap (map request_of) (is ∙ posts ∙ ap (map Post) same) ∙ each texts ∙ ap (map post) split
+pub posted : (texts slice : List (Bor (List ℕ))) (text : List ℕ) (calls : List Call) → map (λ x. x.now) texts ≡ records_of text → slice ≡ texts → calls ≡ map Post slice → map request_of calls ≡ postings_of text
+posted texts slice text calls split same posts = ap (map request_of) (posts ∙ ap (map Post) same) ∙ each texts ∙ ap (map post) split

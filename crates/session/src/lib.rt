@@ -5,5 +5,5 @@
 pub mod calls;
 pub mod gathering;
 
-pub use calls::{answer, post_all};
+pub use calls::{answer, make_one, outcome_of, post, post_all, question};
 pub use gathering::{RecordPlaces, RosterLines};

@@ -13,8 +13,6 @@ impl Entry for Signal {
 
     ghost shape = { element_shape };
 
-    ghost compares = { Prim.search rules };
-
     ghost decides = { Prim.search rules };
 
     fn key(&self) -> SignalKey {
@@ -32,5 +30,9 @@ impl Entry for Signal {
 
     fn document(&self) -> Document {
         Document::Signal
+    }
+
+    fn is_under(&self, key: &SignalKey) -> bool {
+        *key == self.key()
     }
 }

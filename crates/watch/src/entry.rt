@@ -13,8 +13,6 @@ impl Entry for Watch {
 
     ghost shape = { element_shape };
 
-    ghost compares = { Prim.search rules };
-
     ghost decides = { Prim.search rules };
 
     fn key(&self) -> WatchKey {
@@ -31,5 +29,9 @@ impl Entry for Watch {
 
     fn document(&self) -> Document {
         Document::Watch
+    }
+
+    fn is_under(&self, key: &WatchKey) -> bool {
+        *key == self.key()
     }
 }
