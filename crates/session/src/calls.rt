@@ -58,7 +58,7 @@ fn with_newline(heap: Global, text: &[u8]) -> Result<Vec<u8>, AllocError>
     Ok(line)
 }
 
-// Posts a record without its newline.
+// Posts a record whose newline the line does not have.
 pub fn post(heap: Global, day: &mut OpenDay<'_>, text: &[u8]) -> Outcome
     ensures { Made (posting_of text.now) (state_of day.old) result (state_of day.new) }
 {
